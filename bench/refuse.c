@@ -1,5 +1,5 @@
-/* An allocator that refuses the growth with the number in the variable REFUSE, and then writes a byte into the file
-   that REFUSED names. A process that still runs after 20 seconds is ended by a signal. */
+/* An allocator that fails at the allocation whose number is in the variable REFUSE, and then writes a byte into the
+   file that REFUSED names. A process that still runs after 20 seconds is ended by a signal. */
 #define _GNU_SOURCE
 #include <dlfcn.h>
 #include <stdlib.h>
@@ -18,8 +18,8 @@ __attribute__((constructor)) static void begin(void) {
 static int refused(void) {
     /* threads grow memory side by side: one of them alone meets the number */
     if (__atomic_load_n(&left, __ATOMIC_SEQ_CST) <= 0 || __atomic_sub_fetch(&left, 1, __ATOMIC_SEQ_CST) != 0) return 0;
-    const char *told = getenv("REFUSED");
-    int file = told ? open(told, O_CREAT | O_WRONLY, 0600) : -1;
+    const char *name = getenv("REFUSED");
+    int file = name ? open(name, O_CREAT | O_WRONLY, 0600) : -1;
     if (file >= 0) {
         if (write(file, "1", 1) != 1) abort();
         close(file);
@@ -27,7 +27,7 @@ static int refused(void) {
     return 1;
 }
 
-/* finds the function of this name that stands behind this one, once */
+/* finds the next function of this name after this one, once */
 #define FIND(real, name) do { if (!real) real = dlsym(RTLD_NEXT, name); } while (0)
 
 void *malloc(size_t size) {

@@ -43,7 +43,7 @@ def crates_in(text):
             words = line[1:].strip()
         elif colon:
             if storey is None:
-                raise ValueError(f"crates.txt:{number}: {name.strip()} stands in no storey; '## Base' begins one")
+                raise ValueError(f"crates.txt:{number}: {name.strip()} is in no storey; '## Base' begins one")
             found.append(Crate(name.strip(), storey, words, below.split()))
             words = ""
     names = {crate.name for crate in found}
@@ -57,9 +57,9 @@ def faults_of_order(crates):
     for crate in crates:
         for name in crate.below:
             if name not in before:
-                faults.append(f"{crate.name} stands on {name}, which does not come before it")
+                faults.append(f"{crate.name} uses {name}, which does not come before it")
             elif before[name] == STOREYS[-1] != crate.storey:
-                faults.append(f"{crate.name} stands on {name}, a crate of tests")
+                faults.append(f"{crate.name} uses {name}, a crate of tests")
         before[crate.name] = crate.storey
     order = [STOREYS.index(crate.storey) for crate in crates]
     faults += [f"the storey {STOREYS[later]} comes after {STOREYS[first]}"

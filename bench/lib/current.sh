@@ -1,15 +1,15 @@
 # shellcheck shell=bash
-# Whether the program that stands in crates/replay_program/out is that of the sources, and whether it was proved. A
-# script that reads this file sets top, the folder of the repository.
+# Whether the program in crates/replay_program/out is the program of the sources, and whether it was proved. A script
+# that reads this file sets top, the folder of the repository.
 : "${top:?}"
 program=$top/crates/replay_program/out/replay_program
 # the sum of the program that was proved last
 proved=$top/crates/replay_program/out/proved
-# the names of the crates that it stands on
+# the names of the crates that it uses
 crates_of_program=$top/crates/replay_program/out/crates
 
-# The names of the crates that the program stands on, with its own, go into the array crates. They are kept beside it
-# until crates.txt is newer, since Python takes longer than most replays.
+# Puts the names of the crates that the program uses, with its own, into the array crates. Keeps them in a file next to
+# the program until crates.txt is newer, since Python takes longer than most replays.
 read_crates() {
     local names
     if [ "$crates_of_program" -nt "$top/crates.txt" ]; then

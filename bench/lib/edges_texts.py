@@ -49,7 +49,7 @@ def two_faults():
     """Both in one window of a mebibyte, and one in each of two."""
     for blanks in (10_000, 20_000):
         lines = (" " * 39 + "\n") * blanks
-        yield Text(f"two faults behind {blanks} blank lines each", (NODE, lines, "{\n", lines, "[\n"),
+        yield Text(f"two faults after {blanks} blank lines each", (NODE, lines, "{\n", lines, "[\n"),
                    f"line {blanks + 2}: 32 NotJson")
 
 
@@ -98,7 +98,7 @@ def faults_in_windows():
         ticks = running(500, size)
         for place in PLACES:
             line, kind = next(faults)
-            yield Text(f"fault behind {place} ticks of {size} bytes",
+            yield Text(f"fault after {place} ticks of {size} bytes",
                        (NODE_3, POD % "a", *ticks[:place], f"{line}\n", "{\n", *ticks[place:]),
                        f"line {place + 3}: {kind}", words=EXTENDED)
 
@@ -151,7 +151,7 @@ def pods_by_turns():
     told.extend(told_of(pod, f"p{pod}", 1, step * pod + 1, step * pod + 2) for pod in range(pods))
     yield Text("one of 256 pods in each tenth tick", tuple(lines),
                report=node_report(pods, ticks, 1, "".join(told), (pods * ticks, 6 * pods, pods)))
-    yield Text("a stranger behind one of 256 pods in each tenth tick",
+    yield Text("a stranger after one of 256 pods in each tenth tick",
                (*lines, TICK % (ticks + 1, '{"pod":"default/p256"}')), f"line {ticks + pods + 2}: 39 StrangerPod")
 
 

@@ -17,10 +17,10 @@ anything else.
 This page has the contracts, [what is trusted](#what-is-trusted) and [the list of the pages](#the-pages) with the
 definitions. The pages go from the report to the rules and on to the format. A crate precedes the crates that it names,
 and a definition precedes the definitions that it names. An entry quotes the sentence of [rules.md](rules.md),
-[formats.md](formats.md), [extended.md](extended.md), [report.md](report.md) or [quantities.md](quantities.md) that
-states the same in words. Then come an example ([examples.tsv](examples.tsv)), the definition, its file, and links to
-what it names. An example with a slash is a case below `crates/case_runner/data`. The line `contracts:` of a type shows
-which value contracts see in place of the type.
+[formats.md](formats.md), [extended.md](extended.md) or [report.md](report.md) that states the same in words. Then come
+an example ([examples.tsv](examples.tsv)), the definition, its file, and links to what it names. An example with a slash
+is a case below `crates/case_runner/data`. The line `contracts:` of a type shows which value contracts see in place of
+the type.
 """)
 CLAUSES = ("""
 A contract follows the head of a function:

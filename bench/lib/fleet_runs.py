@@ -156,5 +156,5 @@ def measure(fleet, traces, python=sys.executable):
         signal.signal(signal.SIGTERM, before)
         shutil.rmtree(work)
     same = [other == alone for other in others]
-    print(f"{sum(same)} of {len(same)} databases are that of 1 process, of {len(alone)} bytes")
+    print(f"{sum(same)} of {len(same)} databases are the same as with 1 process, with {len(alone)} bytes")
     return 0 if all(same) else 1

@@ -34,12 +34,12 @@ def faults_in(repository, crate, file, places, is_used):
         return faults + [f"{path}:{found.line}: {found.name} is defined where files are named alone"
                          for found in read.definitions]
     if not is_in_folder(file):
-        return [f"{path} stands in neither specs/{RULE} nor specs/{STATE}"]
+        return [f"{path} is in neither specs/{RULE} nor specs/{STATE}"]
     for definition in read.definitions:
         is_reached = ((crate, bare(module), definition.name), path) in places
         if is_reached != file.startswith(f"{RULE}/") and (is_used or is_reached):
-            said, folder = ("is reached", RULE) if is_reached else ("is not reached", STATE)
-            faults.append(f"{path}:{definition.line}: {definition.name} {said}, so it belongs in specs/{folder}")
+            fault, folder = ("is reached", RULE) if is_reached else ("is not reached", STATE)
+            faults.append(f"{path}:{definition.line}: {definition.name} {fault}, so it belongs in specs/{folder}")
     return faults
 
 

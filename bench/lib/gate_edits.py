@@ -35,7 +35,7 @@ def edits_in(text):
         if seconds and _number(seconds) is None:
             raise ValueError(f"bench/edits.tsv:{number}: {seconds} is no number of seconds")
         if not shows:
-            raise ValueError(f"bench/edits.tsv:{number}: it is not said what {crate}/{edit} alone shows")
+            raise ValueError(f"bench/edits.tsv:{number}: nothing describes what {crate}/{edit} alone shows")
         edits[crate, edit] = (_number(seconds), shows)
     return edits
 
@@ -44,7 +44,7 @@ def without_words(edits, there):
     """What is wrong with them where the gate has these edits: nothing, or the first fault."""
     for crate, edit in there:
         if (crate, edit) not in edits:
-            return f"bench/edits.tsv: it is not said what {crate}/{edit} alone shows"
+            return f"bench/edits.tsv: nothing describes what {crate}/{edit} alone shows"
     gone = [name for name in edits if name not in there]
     return f"bench/edits.tsv: the gate has no edit {'/'.join(gone[0])}" if gone else None
 

@@ -14,9 +14,9 @@ What it costs to prove everything, crate by crate, for whoever plans a change or
 page from what it measured; only some sums over mutants, named below, were put together manually.
 
 In new clones of the commit, which no run has touched, `bench/gate` runs `rt ci NAME` for each crate, and then `./test`.
-The commands run one after the other in the order of `crates.txt`, or several at once if the line of the machine says
-so. For a crate with edits the command runs first without them, and then with them, which tries only the edits. Each
-command is timed as a whole, and nothing looks at it while it runs.
+The commands run one after the other in the order of `crates.txt`, or several at once if the line of the machine has
+that. For a crate with edits the command runs first without them, and then with them, which tries only the edits. Each
+command is timed as a whole, and nothing inspects it while it runs.
 
 - Seconds are clock time.
 - Processor seconds, user and system, are of the command and of all processes below it that it waited for, as the

@@ -10,8 +10,8 @@ import sys
 EXAMPLES = (
     ("kubelet_replay run worker-3.trace > worker-3.report", "The report of a trace."),
     ("kubelet_replay check worker-3.trace", "Whether it is one, or its first faulty line."),
-    ("kubelet_replay run --extended worker-3.trace", "That of a trace of version 3, in which pods go."),
-    ("zcat worker-3.trace.gz | kubelet_replay", "That of a trace that is packed."),
+    ("kubelet_replay run --extended worker-3.trace", "The report of a trace of version 3, in which pods go."),
+    ("zcat worker-3.trace.gz | kubelet_replay", "The report of a trace that is packed."),
     ("kubelet-replay story -f worker-3.report shop/web", "The story of one pod of a report."),
     ("kubelet-replay story -f /var/lib/kubelet-replay --at 03:10Z shop/web",
      "The same over the traces of a recorder, around a moment."),
@@ -94,7 +94,7 @@ def page(program, top, version, date):
                                for line in (f"\\fBkubelet_replay\\fR {name} \\fI...\\fR", ".br")),
              "\\fBkubelet_replay\\fR < \\fITRACE\\fR",
              ".SH DESCRIPTION", escaped(about),
-             "Without a word it replays the trace of standard input, which commands take as /dev/stdin.",
+             "Without an argument it replays the trace of standard input, which commands take as /dev/stdin.",
              ".SH COMMANDS"]
     for name, _ in commands:
         if name != "help":
@@ -104,8 +104,8 @@ def page(program, top, version, date):
     lines += [".SH EXAMPLES", *list_of(EXAMPLES)]
     lines += [".SH DIAGNOSTICS", "kubelet\\-replay explain \\-f TRACE shows why the program rejects a trace: the field",
               "at fault, the line around it, and what to do."]
-    lines += [".SH FILES", "Beside the program docs/rules.md has the rules, docs/formats.md says what a trace is,",
-              "docs/report.md what a report is, and examples/ has traces with their reports. The Debian package has",
+    lines += [".SH FILES", "Next to the program docs/rules.md has the rules, docs/formats.md the format of a trace,",
+              "docs/report.md the format of a report, and examples/ has traces with their reports. The Debian package has",
               "them in /usr/share/doc/kubelet\\-replay."]
     lines += [".SH SEE ALSO", "\\fBkubelet\\-replay\\fR(1), \\fBkubelet\\-replay\\-story\\fR(1),",
               "\\fBkubelet\\-replay\\-explain\\fR(1)"]

@@ -5,7 +5,7 @@ from typing import NamedTuple
 NAME = re.compile(r"\[((?:[A-Za-z_]\w*\.)*[A-Za-z_]\w*)\](?![(\[:])")
 GROUP = re.compile(r"\s*\((?:\[[\w.]+\](?:,\s+)?)+\)")
 BEGINS = re.compile(r"\s*(?:- |\d+\. |\|)")
-MARK = "<!-- bench/theorem writes what is below: where the definitions stand that this page names -->"
+MARK = "<!-- bench/theorem writes the lines below: links to the definitions that this page names -->"
 
 
 class Mention(NamedTuple):

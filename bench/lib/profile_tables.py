@@ -22,10 +22,10 @@ def tables(profiles):
     traces, found = list(profiles), list(profiles.values())
     yield f"{'instructions':<24}" + "".join(f"{profile.millions:>11,.0f} M" for profile in found)
     yield from table("all of them", traces, [profile.groups for profile in found])
-    yield from table("those of memory, for", traces, [profile.memory for profile in found])
+    yield from table("of memory, by crate", traces, [profile.memory for profile in found])
     yield from table("all, of our crates", traces, [profile.crates for profile in found])
     yield ""
-    yield "the dearest functions by themselves, in each trace"
+    yield "the most expensive functions by themselves, in each trace"
     for name, _ in summed([profile.functions for profile in found]).most_common(DEAREST):
         shown = name if len(name) <= WIDEST else name[:WIDEST - 2] + ".."
         yield "".join(f"{profile.functions[name]:>7.1%}" for profile in found) + "  " + shown

@@ -1,5 +1,6 @@
-"""What the scripts of bench/ have in common: their arguments, what they reject, the commands that they need, and the
+"""What the scripts of bench/ share: their arguments, their errors and statuses, the commands that they need, and the
 program that they run."""
+import argparse
 import os
 import shutil
 import subprocess
@@ -10,7 +11,7 @@ BUILT = os.path.join(TOP, "crates/replay_program/out/replay_program")
 
 
 class Fault(Exception):
-    """What is printed in one line on standard error, after the script's name, and the status with it."""
+    """An error: the script prints it in one line on standard error, after its own name, and ends with its status."""
 
     def __init__(self, said, status=1):
         super().__init__(said)
@@ -18,34 +19,61 @@ class Fault(Exception):
 
 
 class Usage(Exception):
-    """The words that a script takes; they are mistaken, which is status 3."""
+    """Wrong arguments of a script that parses them itself: the script prints its usage and ends with status 3."""
+
+
+def parser(name, text):
+    """An argparse parser whose help begins with the text, in the text's own lines. A wrong argument is status 2."""
+    return argparse.ArgumentParser(prog=name, description=text.strip("\n"), allow_abbrev=False,
+                                   formatter_class=argparse.RawDescriptionHelpFormatter)
+
+
+def end(name, main):
+    """Ends with the status that main returns, None being 0, or with the status of its fault."""
+    try:
+        sys.exit(main())
+    except Fault as fault:
+        if str(fault):
+            print(f"{name}: {fault}", file=sys.stderr)
+        sys.exit(fault.status)
+    except KeyboardInterrupt:
+        sys.exit(130)
 
 
 def run(name, main, text):
-    """Ends with the status that main gives for the words, none being 0, or with the one of its fault. With --help the
-    text is the answer."""
+    """The same for bench/run, which parses its arguments itself and stays as it is."""
     words = sys.argv[1:]
     if words in (["-h"], ["--help"]):
         print(text.strip("\n"))
         sys.exit(0)
     try:
-        sys.exit(main(words))
-    except Fault as fault:
-        if str(fault):
-            print(f"{name}: {fault}", file=sys.stderr)
-        sys.exit(fault.status)
+        end(name, lambda: main(words))
     except Usage as usage:
         print(f"usage: {usage}", file=sys.stderr)
         sys.exit(3)
-    except KeyboardInterrupt:
-        sys.exit(130)
 
 
 def need(**commands):
-    """Ends if one of these commands is missing; what it is needed for is next to its name."""
-    for command, why in commands.items():
+    """Ends if one of these commands is missing; each has the error that it then prints."""
+    for command, error in commands.items():
         if not shutil.which(command):
-            raise Fault(why, 127)
+            raise Fault(error, 127)
+
+
+def whole_number(least, most=None):
+    """A kind of argument: a whole number from `least` on."""
+    def number(text):
+        if not (text.isascii() and text.isdigit() and least <= int(text) <= (int(text) if most is None else most)):
+            until = "" if most is None else f" to {most:,}"
+            raise argparse.ArgumentTypeError(f"takes a whole number from {least}{until}, not '{text}'")
+        return int(text)
+    return number
+
+
+def add_program(arguments):
+    """Adds the argument PROGRAM to a parser."""
+    arguments.add_argument("program", nargs="?", metavar="PROGRAM",
+                           help="the program to run; without it ./kubelet_replay builds one")
 
 
 def program_of(words):
@@ -63,6 +91,11 @@ def program_of(words):
     return os.path.realpath(words[0])
 
 
+def program_in(given):
+    """The path of the program among parsed arguments, or of the one that ./kubelet_replay builds."""
+    return program_of([given.program] if given.program else [])
+
+
 def write(path, text):
     """Writes a file under another name first, so that a run that is stopped leaves no half of it."""
     part = path + ".part"
@@ -74,3 +107,9 @@ def write(path, text):
 def output_of(words):
     """What a command writes on standard output."""
     return subprocess.run(words, stdin=subprocess.DEVNULL, stdout=subprocess.PIPE, text=True, check=False).stdout
+
+
+def run_shell(path, *words):
+    """The status of a shell script of bench/lib."""
+    return subprocess.run(["bash", os.path.join(TOP, "bench/lib", path), *words], stdin=subprocess.DEVNULL,
+                          check=False).returncode

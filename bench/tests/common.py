@@ -20,9 +20,10 @@ LONGEST = 900
 
 
 def run(script, *words, **settings):
-    """The status, the output and the errors of a script of bench/."""
-    done = subprocess.run([os.path.join(TOP, "bench", script), *words], stdin=subprocess.DEVNULL, capture_output=True,
-                          text=True, check=False, timeout=LONGEST, env={**os.environ, **settings})
+    """The status, the output and the errors of a script of bench/, as "lint", or of a part, as "measure ticks"."""
+    name, *part = script.split()
+    done = subprocess.run([os.path.join(TOP, "bench", name), *part, *words], stdin=subprocess.DEVNULL,
+                          capture_output=True, text=True, check=False, timeout=LONGEST, env={**os.environ, **settings})
     return done.returncode, done.stdout, done.stderr
 
 
@@ -73,3 +74,9 @@ def commands_in(room, *names):
 
 class Case(unittest.TestCase):
     maxDiff = 2000
+
+    def assert_wrong(self, answer, script, error):
+        """The answer of a script to a wrong argument: its usage, and the error in the last line."""
+        status, said, fault = answer
+        self.assertEqual((status, said, fault.partition(" ")[0]), (2, "", "usage:"))
+        self.assertEqual(fault.splitlines()[-1], f"bench/{script}: error: {error}")

@@ -14,33 +14,33 @@ class Architecture(Case):
     def test_a_picture_is_written_and_checked(self):
         with tempfile.TemporaryDirectory() as copy:
             lay_over(SMALL, copy)
-            self.assertEqual(run("architecture", "--check", "--top", copy), (1, "", STALE))
-            self.assertEqual(run("architecture", "--top", copy), (0, "", ""))
+            self.assertEqual(run("pages architecture", "--check", "--top", copy), (1, "", STALE))
+            self.assertEqual(run("pages architecture", "--top", copy), (0, "", ""))
             drawn = read(copy, PICTURE)
             self.assertEqual(drawn, read(TESTS, "architecture/architecture.svg"))
-            self.assertEqual(run("architecture", "--check", "--top", copy), (0, "", ""))
+            self.assertEqual(run("pages architecture", "--check", "--top", copy), (0, "", ""))
             write(drawn + "\n", copy, PICTURE)
-            self.assertEqual(run("architecture", "--check", "--top", copy), (1, "", STALE))
+            self.assertEqual(run("pages architecture", "--check", "--top", copy), (1, "", STALE))
 
     def test_without_crates_it_says_so(self):
         with tempfile.TemporaryDirectory() as copy:
             path = os.path.join(copy, "crates.txt")
-            self.assertEqual(run("architecture", "--top", copy),
+            self.assertEqual(run("pages architecture", "--top", copy),
                              (1, "", f"bench/architecture: [Errno 2] No such file or directory: '{path}'\n"))
 
     def test_the_storeys_are_kept(self):
         whole = read(SMALL, "crates.txt.text")
         for old, new, fault in (
-                ("marks:\n", "marks: event_book\n", "marks stands on event_book, which does not come before it"),
-                ("text: marks\n", "text: marks text\n", "text stands on text, which does not come before it"),
+                ("marks:\n", "marks: event_book\n", "marks uses event_book, which does not come before it"),
+                ("text: marks\n", "text: marks text\n", "text uses text, which does not come before it"),
                 ("## Rules", "## Node", "the storey Threads comes after Node"),
-                ("## Threads", "## Tests", "kubelet_replay stands on event_book, a crate of tests; "
+                ("## Threads", "## Tests", "kubelet_replay uses event_book, a crate of tests; "
                                            "crates.txt: the storey Program comes after Tests")):
             with self.subTest(new), tempfile.TemporaryDirectory() as copy:
                 lay_over(SMALL, copy)
                 write(whole.replace(old, new), copy, "crates.txt")
                 for words in ((), ("--check",)):
-                    self.assertEqual(run("architecture", *words, "--top", copy),
+                    self.assertEqual(run("pages architecture", *words, "--top", copy),
                                      (1, "", f"bench/architecture: crates.txt: {fault}\n"))
 
     def test_lines_and_folders_are_the_same(self):
@@ -54,7 +54,7 @@ class Architecture(Case):
                 write(text, copy, "crates.txt")
                 if folder:
                     os.mkdir(f"{copy}/crates/{folder}")
-                self.assertEqual(run("architecture", "--check", "--top", copy),
+                self.assertEqual(run("pages architecture", "--check", "--top", copy),
                                  (1, "", f"bench/architecture: crates.txt: {fault}\n"))
 
     def test_a_crate_without_threads_reaches_no_pool(self):

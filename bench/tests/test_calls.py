@@ -144,7 +144,7 @@ class Calls(Case):
         lay_over(SMALL, self.top)
 
     def check(self):
-        status, _, said = run("calls", "--check", "--top", self.top)
+        status, _, said = run("pages calls", "--check", "--top", self.top)
         return status, said
 
     def test_pages_are_written_anew(self):
@@ -154,14 +154,14 @@ class Calls(Case):
         write("# Calls\n", self.top, "docs/calls/gone.md")
         self.assertEqual(self.check(), (1, "".join(f"bench/calls: docs/{said}: run bench/calls\n" for said in (
             "calls/base.md is stale", "calls.md is missing", "calls/gone.md has no crate"))))
-        self.assertEqual(run("calls", "--top", self.top), (0, "", ""))
+        self.assertEqual(run("pages calls", "--top", self.top), (0, "", ""))
         self.assertEqual(len(os.listdir(f"{self.top}/docs/calls")), len(PAGES) - 1)
         for page in PAGES:
             self.assertEqual(read(self.top, "docs", page), read(SMALL, "docs", page))
 
     def test_a_public_call_without_a_comment(self):
         write(read(self.top, LIB).replace("/// Grades a sheet in a format.\n", ""), self.top, LIB)
-        self.assertEqual(run("calls", "--top", self.top), (
+        self.assertEqual(run("pages calls", "--top", self.top), (
             1, "", f"bench/calls: {LIB}:31: the public call replay_in has no doc comment\n"))
 
     def test_an_example_of_no_definition(self):

@@ -43,7 +43,7 @@ class Cases(Case):
         os.chmod(f"{self.room}/program", 0o755)
 
     def ran(self):
-        status, said, fault = run("cases", f"{self.room}/program", self.room)
+        status, said, fault = run("try cases", f"{self.room}/program", self.room)
         self.assertEqual(fault, "")
         return status, said.splitlines()
 
@@ -52,7 +52,7 @@ class Cases(Case):
 
     def test_a_case_that_is_not_counted(self):
         write(COUNTS.replace("2", "1"), self.room, "counts")
-        self.assertEqual(self.ran(), (1, ["the file counts does not say what there is:", *COUNTS.splitlines(),
+        self.assertEqual(self.ran(), (1, ["the file counts differs from what there is:", *COUNTS.splitlines(),
                                           "60 runs of 6 cases, 1 otherwise than expected"]))
 
     def test_a_report_that_differs_by_some_workers(self):
@@ -104,8 +104,8 @@ class Cases(Case):
         self.assertEqual(self.ran(), (0, ["70 runs of 7 cases, 0 otherwise than expected"]))
 
     def test_words(self):
-        self.assertEqual(run("cases", "a", "b", "c"), (3, "", "usage: bench/cases [PROGRAM [FOLDER]]\n"))
-        self.assertEqual(run("cases", "/nowhere"), (2, "", "bench/cases: there is no program /nowhere\n"))
+        self.assert_wrong(run("try cases", "a", "b", "c"), "try cases", "unrecognized arguments: c")
+        self.assertEqual(run("try cases", "/nowhere"), (2, "", "bench/try cases: there is no program /nowhere\n"))
 
 
 class Files(Case):

@@ -37,7 +37,7 @@ class Crates(Case):
 
     def test_faults_name_the_line(self):
         for text, said in (("## Attic\n", "crates.txt:1: no storey is called Attic; they are Base, Format, "),
-                           ("# words\nlist:\n", "crates.txt:2: list stands in no storey; '## Base' begins one")):
+                           ("# words\nlist:\n", "crates.txt:2: list is in no storey; '## Base' begins one")):
             with self.assertRaises(ValueError) as fault:
                 crates.crates_in(text)
             self.assertTrue(str(fault.exception).startswith(said), fault.exception)
@@ -59,7 +59,7 @@ class Crates(Case):
             self.assertEqual(crates_py(top, "attic"), (2, "", "crates.py: there is no crate attic\n"))
             write("list:\n", top, "crates.txt")
             self.assertEqual(crates_py(top, "list")[::2], (
-                1, "crates.py: crates.txt:1: list stands in no storey; '## Base' begins one\n"))
+                1, "crates.py: crates.txt:1: list is in no storey; '## Base' begins one\n"))
         self.assertEqual(crates_py(TOP), (3, "", "usage: crates.py TOP NAME\n"))
 
 
@@ -127,4 +127,4 @@ class Current(Case):
         write("list:\n", self.top, "crates.txt")
         self.set_age("crates.txt", 50)
         self.assertEqual(self.is_current(), (
-            1, "crates.py: crates.txt:1: list stands in no storey; '## Base' begins one\n"))
+            1, "crates.py: crates.txt:1: list is in no storey; '## Base' begins one\n"))

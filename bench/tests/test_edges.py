@@ -4,11 +4,13 @@ import io
 import json
 import os
 import tempfile
+from types import SimpleNamespace
 from unittest import mock
 
-from common import COMMANDS, Case, loaded, run, write
+from common import COMMANDS, Case, run, write
 from edges_texts import FAULTS, MEBIBYTE, NODE, NODE_3, Text, texts
 from edges_traces import STEP, Edge, report_parts, trace_lines
+from tries import edges
 
 SMALL = Edge(1, 8, periods=(4,))
 TRACE = """\
@@ -64,7 +66,7 @@ totals updates=2 events=0 orders=0
 LONGEST_INPUT, LONGEST_LINE, LONG_RUN = 64 << 20, 1 << 20, 600
 # a stand-in finds the report next to the trace
 KNOWN = '#!/bin/sh\n[ "$1 $3" = "run --workers" ] && cat "${2%trace}report"\n'
-EDGES = loaded("edges").EDGES
+EDGES = edges.EDGES
 SIZES = [f"pods=1 ticks=8 containers=1: {len(TRACE)} bytes, 8 updates, 12 events",
          "pods=2 ticks=3 containers=1: 355 bytes, 6 updates, 0 events"]
 
@@ -136,7 +138,7 @@ class Texts(Case):
     def test_first_faults(self):
         faults, seen = dict(FAULTS), set()
         for text in texts():
-            if text.said and text.name.startswith("fault behind"):
+            if text.said and text.name.startswith("fault after"):
                 number, kind = text.said.removeprefix("line ").split(": ")
                 lines = "".join(text.parts).splitlines()
                 line = lines[int(number) - 1]
@@ -148,7 +150,7 @@ class Texts(Case):
     def test_faults_in_the_last_lines(self):
         for name, behind in (("tick of a pod that has left", 0), ("tick of a pod before its line", 1),
                              ("tick of the container of a pod that left", 0), ("a tick more than 20,000", 0),
-                             ("a stranger behind one of 256 pods in each tenth tick", 0)):
+                             ("a stranger after one of 256 pods in each tenth tick", 0)):
             text = all_texts()[name]
             lines = "".join(text.parts).splitlines()
             self.assertTrue(text.said.startswith(f"line {len(lines) - behind}: "), name)
@@ -181,12 +183,11 @@ class Edges(Case):
 
     def setUp(self):
         self.room = self.enterContext(tempfile.TemporaryDirectory())
-        self.edges = loaded("edges")
-        self.enterContext(mock.patch.object(self.edges, "EDGES", ((SMALL, (1, 64)), (Edge(2, 3), (4,)))))
+        self.enterContext(mock.patch.object(edges, "EDGES", ((SMALL, (1, 64)), (Edge(2, 3), (4,)))))
         self.give_texts()
 
     def give_texts(self, *given):
-        self.enterContext(mock.patch.object(self.edges, "texts", lambda: given))
+        self.enterContext(mock.patch.object(edges, "texts", lambda: given))
 
     def ran(self, text):
         """The status of the script, and what it prints, over a stand-in."""
@@ -194,7 +195,7 @@ class Edges(Case):
         write(text, program)
         os.chmod(program, 0o755)
         with contextlib.redirect_stdout(io.StringIO()) as said:
-            status = self.edges.main([program])
+            status = edges.main(SimpleNamespace(program=program))
         return status, said.getvalue().splitlines()
 
     def test_reports_that_are_known(self):
@@ -232,12 +233,12 @@ class Edges(Case):
             "6 runs at the limits, 1 otherwise than expected"]))
 
     def test_words(self):
-        for words in (("--all",), ("/bin/true", "/bin/true")):
-            self.assertEqual(run("edges", *words), (3, "", "usage: bench/edges [PROGRAM]\n"), words)
-        self.assertEqual(run("edges", "/nowhere"), (2, "", "bench/edges: there is no program /nowhere\n"))
+        for words in (("--all",), ("/bin/true", "/bin/false")):
+            self.assert_wrong(run("try edges", *words), "try edges", f"unrecognized arguments: {words[-1]}")
+        self.assertEqual(run("try edges", "/nowhere"), (2, "", "bench/try edges: there is no program /nowhere\n"))
 
     def test_the_whole_script(self):
-        status, said, fault = run("edges", f"{COMMANDS}/replay")
+        status, said, fault = run("try edges", f"{COMMANDS}/replay")
         self.assertEqual((status, fault), (1, ""))
         runs = sum(len(workers) for _, workers in EDGES) + sum(len(text.workers) for text in texts())
         self.assertEqual(said.splitlines()[-1], f"{runs} runs at the limits, {runs} otherwise than expected")

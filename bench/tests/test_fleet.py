@@ -47,7 +47,7 @@ class Traces(Case):
     def test_they_are_written(self):
         with tempfile.TemporaryDirectory() as room:
             folder = f"{room}/new"
-            self.assertEqual(run("fleet", "traces", folder, "3", "7", "20"), (0, "", ""))
+            self.assertEqual(run("measure fleet", "traces", folder, "3", "7", "20"), (0, "", ""))
             self.assertEqual(sorted(os.listdir(folder)), [f"worker-0000{number}.trace" for number in range(3)])
             self.assertEqual(read(folder, "worker-00002.trace"), node_traces.trace(7, 2, 20))
 
@@ -64,7 +64,7 @@ class Runs(Case):
 
     def test_each_way_has_the_same_database(self):
         status, lines = self.measured()
-        self.assertEqual((status, lines[-1]), (0, "7 of 7 databases are that of 1 process, of 63 bytes"))
+        self.assertEqual((status, lines[-1]), (0, "7 of 7 databases are the same as with 1 process, with 63 bytes"))
         self.assertRegex(lines.pop(3), r"^4 processes, ended in the middle +after [4-7] answers; a database: False$")
         for line, name in zip(lines[:-1], RUNS, strict=True):
             self.assertRegex(line, f"^{name} +status 0 {COST}$")
@@ -72,7 +72,7 @@ class Runs(Case):
     def test_a_database_that_is_another(self):
         with mock.patch.object(fleet_runs, "dask_run", lambda *_, **__: b"other"):
             status, lines = self.measured()
-        self.assertEqual((status, lines[-1]), (1, "3 of 7 databases are that of 1 process, of 63 bytes"))
+        self.assertEqual((status, lines[-1]), (1, "3 of 7 databases are the same as with 1 process, with 63 bytes"))
 
     def test_a_signal_ends_what_was_started(self):
         def popen(*words, **more):
@@ -87,9 +87,15 @@ class Runs(Case):
 
 class Words(Case):
     def test_words(self):
-        status, said, fault = run("fleet", "--help")
+        status, said, fault = run("measure fleet", "--help")
         self.assertEqual((status, fault), (0, ""))
-        self.assertIn("  bench/fleet measure FOLDER [PYTHON]\n", said)
-        for words in ((), ("--all",), ("traces",), ("traces", "/nowhere", "x"), ("traces", "/nowhere", "1", "1", "3"),
-                      ("measure", "/nowhere")):
-            self.assertEqual(run("fleet", *words), (3, "", said), words)
+        self.assertIn("write the traces\n", said)
+        ticks = "argument TICKS: takes a whole number from 4 to 20,000, not '3'"
+        for part, words, error in (
+                ("", (), "the following arguments are required: traces | measure"),
+                (" traces", (), "the following arguments are required: FOLDER"),
+                (" traces", ("/nowhere", "x"), "argument COUNT: takes a whole number from 0, not 'x'"),
+                (" traces", ("/nowhere", "1", "1", "3"), ticks)):
+            self.assert_wrong(run(f"measure fleet{part}", *words), f"measure fleet{part}", error)
+        self.assertEqual(run("measure fleet", "measure", "/nowhere"), (
+            2, "", "bench/measure fleet: there are no traces in /nowhere: bench/measure fleet traces /nowhere\n"))

@@ -115,22 +115,27 @@ class Words(Case):
             for command, said in (("rt", "the Rattle kit is missing: put its command rt on the PATH"),
                                   ("cc", "a C compiler (cc) is missing; the gate needs it"),
                                   ("git", "git is missing; it makes the clone")):
-                self.assertEqual(run("gate", "marks", PATH=path), (127, "", f"bench/gate: {said}\n"))
+                self.assertEqual(run("measure gate", "marks", PATH=path), (127, "", f"bench/measure gate: {said}\n"))
                 os.symlink("/bin/true", os.path.join(path, command))
             for words in ((), ("--costs",)):
-                self.assertEqual(run("gate", *words, PATH=path), (
-                    127, "", "bench/gate: hyperfine is missing: apt-get install hyperfine; it measures the seconds\n"))
+                self.assertEqual(run("measure gate", *words, PATH=path), (
+                    127, "", "bench/measure gate: hyperfine is missing: apt-get install hyperfine; it measures the seconds\n"))
 
     def test_words_that_are_none(self):
         with tempfile.TemporaryDirectory() as top:
             small(top)
-            self.assertEqual(gate(top, "marks", "nothing"), (2, "", "bench/gate: there is no crate nothing\n"))
-            self.assertEqual(gate(top, "--again", "nothing"), (2, "", "bench/gate: there is no crate nothing\n"))
-            for words in (("--all",), ("--jobs",), ("--jobs", "0"), ("--jobs", "12"), ("--jobs", "2", "--page"),
-                          ("--jobs", "2", "--again"), ("--again", "--costs"), ("--again", "--page")):
-                self.assertEqual(gate(top, *words), (3, "", (
-                    "usage: bench/gate [[--jobs 1..9 | --again] [NAME..] | --page | --costs | --beside COMMIT]\n"
-                )), words)
+            self.assertEqual(gate(top, "marks", "nothing"), (2, "", "bench/measure gate: there is no crate nothing\n"))
+            self.assertEqual(gate(top, "--again", "nothing"), (2, "", "bench/measure gate: there is no crate nothing\n"))
+            number = "argument --jobs: takes a whole number from 1 to 9, not '{}'"
+            for words, error in (
+                    (("--all",), "unrecognized arguments: --all"), (("--jobs",), "argument --jobs: expected one argument"),
+                    (("--jobs", "0"), number.format(0)), (("--jobs", "12"), number.format(12)),
+                    (("--jobs", "2", "--page"), "argument --page: not allowed with argument --jobs"),
+                    (("--jobs", "2", "--again"), "argument --again: not allowed with argument --jobs"),
+                    (("--again", "--costs"), "argument --costs: not allowed with argument --again")):
+                self.assert_wrong(gate(top, *words), "measure gate", error)
+            self.assertEqual(gate(top, "--page", "marks"), (
+                2, "", "bench/measure gate: --page, --costs and --beside take no NAME\n"))
 
 
 class Figures(Case):
@@ -267,7 +272,7 @@ class Page(Case):
                       " ".join(gate(self.top, "--beside", before)[1].split()))
         for none in "0123456789", f"{before}~1^{{tree}}":
             self.assertEqual(gate(self.top, "--beside", none), (
-                1, "", "bench/gate: no crate in both tables is unchanged\n"))
+                1, "", "bench/measure gate: no crate in both tables is unchanged\n"))
 
     def test_costs_alone_are_written_anew(self):
         page = read(HERE, "gate.md")
@@ -400,15 +405,15 @@ class Whole(Case):
     def test_a_crate_that_fails(self):
         status, told, said = gate(self.top, FAILS="text")
         self.assertEqual((status, [*self.lines(told)], said), (
-            1, ["marks"], "bench/gate: rt ci text ended with 1, so docs/gate.md stays as it was: out/gate/text.log "
-                          "says why\n"))
+            1, ["marks"], "bench/measure gate: rt ci text ended with 1, so docs/gate.md stays as it was: out/gate/text.log "
+                          "has the reason\n"))
         self.assertEqual((self.ran(), self.new(), self.page()), (RUNS[:3], ["marks"], False))
         self.assertEqual(read(self.top, "out/gate/text.log"), "rt: it is not proved\n0 passed, 1 failed\n")
 
     def test_a_whole_gate_that_fails(self):
         status, _, said = gate(self.top, GATE_ENDS="1", KEPT=" ".join(NAMES))
         self.assertEqual((status, said), (
-            1, "bench/gate: ./test ended with 1, so docs/gate.md stays as it was: out/gate.log says why\n"))
+            1, "bench/measure gate: ./test ended with 1, so docs/gate.md stays as it was: out/gate.log has the reason\n"))
         self.assertEqual((self.ran(), self.new(), self.page()), (RUNS, [], False))
 
     def test_a_run_that_is_ended(self):
@@ -441,7 +446,7 @@ class Whole(Case):
         self.assertEqual(([*self.lines(told)], self.page()), (wanted, False))
 
     def test_changes_that_are_not_committed(self):
-        said = "bench/gate: the checkout has changes that are not committed, which a clone would not have\n"
+        said = "bench/measure gate: the checkout has changes that are not committed, which a clone would not have\n"
         write("text", self.top, "new")
         self.assertEqual(gate(self.top), (2, "", said))
         os.remove(f"{self.top}/new")
@@ -457,7 +462,7 @@ class Whole(Case):
     def test_no_checkout(self):
         shutil.rmtree(f"{self.top}/.git")
         status, told, said = gate(self.top, GIT_CEILING_DIRECTORIES=os.path.dirname(self.top))
-        self.assertEqual((status, told, said.splitlines()[-1]), (2, "", "bench/gate: this is no checkout of git"))
+        self.assertEqual((status, told, said.splitlines()[-1]), (2, "", "bench/measure gate: this is no checkout of git"))
 
     def test_costs(self):
         page = read(HERE, "gate.md")
@@ -470,7 +475,7 @@ class Whole(Case):
         write("page", self.top, "docs/gate.md")
         write("#!/bin/sh\nexit 1\n", self.top, "bench/ticks")
         self.assertEqual((gate(self.top, "--costs"), read(self.top, "docs/gate.md")), (
-            (1, "", "bench/gate: bench/ticks failed, so docs/gate.md stays as it was\n"), "page"))
+            (1, "", "bench/measure gate: bench/ticks failed, so docs/gate.md stays as it was\n"), "page"))
 
     def test_the_page_alone(self):
         page = read(HERE, "gate.md")
@@ -487,4 +492,4 @@ class Whole(Case):
     def test_a_page_without_figures(self):
         write(read(HERE, "gate.tsv").splitlines(keepends=True)[0], self.top, "bench/gate.tsv")
         self.assertEqual((gate(self.top, "--page"), self.page()), (
-            (1, "", "bench/gate: bench/gate.tsv has no figures yet: bench/gate measures them\n"), False))
+            (1, "", "bench/measure gate: bench/gate.tsv has no figures yet: bench/gate measures them\n"), False))

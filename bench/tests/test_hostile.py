@@ -7,11 +7,12 @@ import os
 import re
 import tempfile
 
-from common import COMMANDS, TOP, Case, loaded, read, run, write
+from common import COMMANDS, TOP, Case, read, run, write
 import answers
 import journal_mutations
 import mutations
 import shapes
+from tries import hostile
 
 FAULTS = answers.faults_in(read(TOP, "docs/formats.md"))
 REPORT = b"node n1 pods=2 ticks=3\ntotals updates=0 events=0 orders=0\n"
@@ -76,7 +77,7 @@ class Journals(Case):
             self.assertEqual(journal_mutations.kind_of(status, out, error), kind)
 
     def test_imports_of_mutated_journals(self):
-        status, out, _ = run("hostile", "--import", "--jobs", "2", "40", "1")
+        status, out, _ = run("try hostile", "--import", "--jobs", "2", "40", "1")
         self.assertEqual((status, out.splitlines()[-1].rpartition("; ")[2]), (0, "0 failed"), out)
 
 
@@ -125,7 +126,6 @@ class Shapes(Case):
 
 class ShapeAnswers(Case):
     def test_what_a_shape_was_answered(self):
-        hostile = loaded("hostile")
         with tempfile.TemporaryDirectory() as room:
             runner = hostile.Runner("/bin/true", room)
             for status, written, said, answer in (
@@ -141,7 +141,6 @@ class ShapeAnswers(Case):
                 self.assertEqual(hostile.shape_answer(runner, status, FAULTS), answer)
 
     def test_a_run_has_its_answer_and_its_end(self):
-        hostile = loaded("hostile")
         with tempfile.TemporaryDirectory() as room:
             runner = hostile.Runner("/bin/sh", room)
             self.assertEqual(runner.answer(["-c", "echo a; echo b >&2; exit 3"]), (3, b"a\n", b"b\n"))
@@ -154,14 +153,14 @@ class Whole(Case):
         with tempfile.TemporaryDirectory() as room:
             write("#!/bin/sh\necho 'line 1: 34 Order' >&2\nexit 2\n", room, "program")
             os.chmod(f"{room}/program", 0o755)
-            status, said, fault = run("hostile", "--jobs", "2", f"{room}/program", "30", "3")
+            status, said, fault = run("try hostile", "--jobs", "2", f"{room}/program", "30", "3")
         self.assertEqual((status, fault), (0, ""))
         self.assertRegex(said, r"^ {7}30 34 Order\n30 runs of seed 3 in \d+ seconds with jobs=2, \d+ a second; "
                                r"check was compared in 1; 0 failed\n$")
 
     def test_a_program_that_does_not(self):
         with tempfile.TemporaryDirectory() as room:
-            status, said, fault = run("hostile", "/bin/false", "20", "5", TMPDIR=room)
+            status, said, fault = run("try hostile", "/bin/false", "20", "5", TMPDIR=room)
             kept = glob.glob(f"{room}/*.trace")
         self.assertEqual((status, fault), (1, ""))
         self.assertIn("!status 1, b'', with workers=", said)
@@ -169,8 +168,9 @@ class Whole(Case):
         self.assertEqual(kept, [re.search(r"its trace is (\S+)$", said)[1]])
 
     def test_words(self):
-        self.assertEqual(run("hostile", "/nowhere", "3"), (1, "", "bench/hostile: there is no program /nowhere\n"))
-        for words in ((f"{COMMANDS}/replay", "1", "2", "3"), (f"{COMMANDS}/replay", "x"), ("--jobs", "0", "/bin/true")):
-            status, said, fault = run("hostile", *words)
-            self.assertEqual((status, said), (2, ""))
-            self.assertIn("bench/hostile: error: COUNT and SEED are whole numbers, and N is 1 at least\n", fault)
+        self.assertEqual(run("try hostile", "/nowhere", "3"), (2, "", "bench/try hostile: there is no program /nowhere\n"))
+        for words in ((f"{COMMANDS}/replay", "1", "2", "3"), (f"{COMMANDS}/replay", "x")):
+            self.assertEqual(run("try hostile", *words), (
+                2, "", "bench/try hostile: COUNT and SEED are whole numbers, and come after PROGRAM\n"))
+        self.assert_wrong(run("try hostile", "--jobs", "0", "/bin/true"), "try hostile",
+                          "argument --jobs: takes a whole number from 1, not '0'")

@@ -5,9 +5,11 @@ import json
 import os
 import re
 import tempfile
+from unittest import mock
 
-from common import COMMANDS, Case, loaded, run, write
+from common import COMMANDS, Case, run, write
 import node_journals
+from tries import import_journals
 
 
 class Journals(Case):
@@ -61,7 +63,7 @@ class Whole(Case):
         with tempfile.TemporaryDirectory() as room:
             write(program, room, "program")
             os.chmod(f"{room}/program", 0o755)
-            answer = run("import_journals", *words, KUBELET_REPLAY=f"{room}/program", TMPDIR=room)
+            answer = run("try import_journals", *words, KUBELET_REPLAY=f"{room}/program", TMPDIR=room)
             return answer, sorted(map(os.path.basename, glob.glob(f"{room}/import-*")))
 
     def test_a_program_that_takes_them(self):
@@ -77,20 +79,18 @@ class Whole(Case):
         self.assertEqual(len(kept), int(re.search(r"; (\d+) failed\n$", said)[1]))
 
     def test_words(self):
-        status, said, fault = run("import_journals", "0", KUBELET_REPLAY=f"{COMMANDS}/replay")
-        self.assertEqual((status, said), (2, ""))
-        self.assertIn("COUNT and N are whole numbers, 1 at least\n", fault)
-        self.assertEqual(run("import_journals", "1", KUBELET_REPLAY="/nowhere"), (
-            1, "", "bench/import_journals: there is no program /nowhere\n"))
+        answer = run("try import_journals", "0", KUBELET_REPLAY=f"{COMMANDS}/replay")
+        self.assert_wrong(answer, "try import_journals", "argument COUNT: takes a whole number from 1, not '0'")
+        self.assertEqual(run("try import_journals", "1", KUBELET_REPLAY="/nowhere"), (
+            2, "", "bench/try import_journals: there is no program /nowhere\n"))
 
 
 class Faults(Case):
     def test_an_import_that_fails(self):
-        bench = loaded("import_journals")
         with tempfile.TemporaryDirectory() as room:
             for text, fault in (("echo traceback >&2; exit 1", ""), ("exit 3", "status 3: "),
                                 ("echo a >&2; echo b >&2; exit 1", "status 1: a\nb")):
                 write(f"#!/bin/sh\n{text}\n", room, "import")
                 os.chmod(f"{room}/import", 0o755)
-                bench.IMPORT = f"{room}/import"
-                self.assertEqual(bench.imported([], f"{room}/trace"), (fault, False))
+                with mock.patch.object(import_journals, "IMPORT", f"{room}/import"):
+                    self.assertEqual(import_journals.imported([], f"{room}/trace"), (fault, False))

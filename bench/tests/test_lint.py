@@ -14,7 +14,7 @@ PYTHON = {"h": "#!/usr/bin/env python3\n", "i.py": "", "lib/j": "#!/usr/bin/pyth
           "tools/replay_tools/t.py": "", "tools/t.py": ""}
 OTHERS = {"k": "", "l.md": "#!/bin/sh\n"[1:], "m": "sh\n", "n": "#!/usr/bin/awk -f\n", "out/o.py": "FINDING\n",
           ".gitignore": "out/\n", "p": "#!/usr/bin/env fish\n", "q.js": "// python\n"}
-ALL = "11 files were looked at: 6 of shell, 5 of Python\n"
+ALL = "11 files were checked: 6 of shell, 5 of Python\n"
 
 
 @unittest.skipUnless(shutil.which("git"), "git is missing")
@@ -55,15 +55,15 @@ class Lint(Case):
         os.chmod(f"{self.top}/bench/prose", 0o755)
         status, said, _ = self.lint()
         self.assertEqual((status, said.splitlines()[-2:]),
-                         (1, ["--check", "12 files were looked at: 7 of shell, 5 of Python"]))
+                         (1, ["--check", "12 files were checked: 7 of shell, 5 of Python"]))
 
     def test_a_file_that_is_gone(self):
         os.remove(f"{self.top}/a")
         status, said, _ = self.lint()
-        self.assertEqual((status, said.splitlines()[-1]), (0, "10 files were looked at: 5 of shell, 5 of Python"))
+        self.assertEqual((status, said.splitlines()[-1]), (0, "10 files were checked: 5 of shell, 5 of Python"))
 
     def test_words_and_what_is_missing(self):
-        self.assertEqual(run("lint", "--all"), (3, "", "usage: bench/lint [FOLDER]\n"))
+        self.assert_wrong(run("lint", "--all"), "lint", "unrecognized arguments: --all")
         with tempfile.TemporaryDirectory() as room:
             path = commands_in(room, "python3", "env", "git")
             for command in ("shellcheck", "pyflakes3", "mypy"):

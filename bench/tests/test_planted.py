@@ -21,7 +21,7 @@ class Planted(Case):
         write("".join(f"{line}\n" for line in lines), self.top, "bench/planted.tsv")
         if not os.path.exists(f"{self.top}/bench/edits.tsv"):
             self.put_edits()
-        return run("planted", *words, "--top", self.top)
+        return run("pages planted", *words, "--top", self.top)
 
     def put_edits(self, *lines):
         write("".join(f"{line}\n" for line in (EDITS, *lines)), self.top, "bench/edits.tsv")
@@ -39,11 +39,11 @@ class Planted(Case):
         gate_figures.keep(self.top, ["a"], "a", figure)
         self.assertEqual(self.planted(HEAD, ROW), (0, "", ""))
         self.assertIn("\n- `a`: 2 edits, 40 s" + shown, read(self.top, "docs/planted.md"))
-        for lines, said in ((rows[:1], ": it is not said what a/second alone shows"),
+        for lines, said in ((rows[:1], ": nothing describes what a/second alone shows"),
                             ([*rows, "b\tthird\t\tno edit of the gate"], ": the gate has no edit b/third"),
                             ([*rows, "a"], ":4: 1 cells, not 4"),
                             ([*rows, "a\tx\tsome\tx"], ":4: some is no number of seconds"),
-                            ([*rows, "a\tx\t\t"], ":4: it is not said what a/x alone shows")):
+                            ([*rows, "a\tx\t\t"], ":4: nothing describes what a/x alone shows")):
             self.put_edits(*lines)
             self.assertEqual(self.planted(HEAD, ROW, words=["--check"]), (
                 1, "", f"bench/planted: bench/edits.tsv{said}\n"))

@@ -17,7 +17,7 @@ serde_json, reading             30.0%        30.0%
 the rest                        16.0%        16.0%
 memory functions                10.0%        10.0%
 
-those of memory, for             both         once
+of memory, by crate              both         once
 serde_json, reading             60.0%        60.0%
 our crates                      40.0%        40.0%
 
@@ -25,7 +25,7 @@ all, of our crates               both         once
 trace                           29.0%        29.0%
 kubelet_replay                  15.0%        15.0%
 
-the dearest functions by themselves, in each trace
+the most expensive functions by themselves, in each trace
   30.0%  30.0%  serde_json::de::from_slice
   20.0%  20.0%  core::fmt::write
   16.0%  16.0%  main
@@ -69,25 +69,25 @@ class Tables(Case):
 
     def test_the_whole(self):
         program = f"{COMMANDS}/replay"
-        status, said, told = run("profile", program, PATH=PATH_WITH_COMMANDS)
+        status, said, told = run("measure profile", program, PATH=PATH_WITH_COMMANDS)
         self.assertEqual((status, told), (
-            0, f"bench/profile: callgrind runs {program} over small_pods small_ticks small_lines\n"))
+            0, f"bench/measure profile: callgrind runs {program} over small_pods small_ticks small_lines\n"))
         # kubelet_replay and trace are crates of the repository too
         self.assertEqual(said.splitlines()[2:4], ["all of them                small_pods  small_ticks  small_lines",
                                                   "our crates                      44.0%        44.0%        44.0%"])
 
     def test_a_run_that_fails(self):
-        status, said, told = run("profile", "/bin/false", PATH=PATH_WITH_COMMANDS)
+        status, said, told = run("measure profile", "/bin/false", PATH=PATH_WITH_COMMANDS)
         self.assertEqual((status, said, told.splitlines()[-1]), (
-            1, "", "bench/profile: the run over small_pods failed"))
+            1, "", "bench/measure profile: the run over small_pods failed"))
 
     def test_words(self):
         for words in (("--all",), ("/bin/true", "2")):
-            self.assertEqual(run("profile", *words), (3, "", "usage: bench/profile [PROGRAM]\n"))
+            self.assert_wrong(run("measure profile", *words), "measure profile", f"unrecognized arguments: {words[-1]}")
         with tempfile.TemporaryDirectory() as room:
             path = commands_in(room, "python3", "env")
-            self.assertEqual(run("profile", "/nowhere", PATH=path), (
-                127, "", "bench/profile: valgrind is missing; callgrind is a part of it\n"))
+            self.assertEqual(run("measure profile", "/nowhere", PATH=path), (
+                127, "", "bench/measure profile: valgrind is missing; callgrind is a part of it\n"))
             os.symlink("/bin/true", f"{path}/valgrind")
-            self.assertEqual(run("profile", "/nowhere", PATH=path), (
-                2, "", "bench/profile: there is no program /nowhere\n"))
+            self.assertEqual(run("measure profile", "/nowhere", PATH=path), (
+                2, "", "bench/measure profile: there is no program /nowhere\n"))

@@ -1,4 +1,4 @@
-"""Tests of bench/proofs, over a repository of five crates and an rt that proves all but the ones that it is given."""
+"""Tests of bench/try proofs, over a repository of five crates and an rt that proves all but the ones that it is given."""
 import os
 import shutil
 import subprocess
@@ -32,12 +32,13 @@ case " $UNPROVED " in *" $name "*) echo "one goal of $name is open"; exit 1 ;; e
 
 
 class Proofs(Case):
-    """A copy of bench/proofs in such a repository."""
+    """A copy of bench/try in such a repository."""
 
     def setUp(self):
         self.top = self.enterContext(tempfile.TemporaryDirectory())
-        os.symlink(f"{TOP}/bench/lib", self.path("bench", "lib"))
-        shutil.copy(f"{TOP}/bench/proofs", self.path("bench", "proofs"))
+        shutil.copytree(f"{TOP}/bench/lib", self.path("bench", "lib"))
+        for name in ("proofs", "try"):
+            shutil.copy(f"{TOP}/bench/{name}", self.path("bench", name))
         shutil.copy(f"{TOP}/test", self.path("test"))
         write(CRATES, self.top, "crates.txt")
         write(RT, self.path("bin", "rt"))
@@ -89,5 +90,5 @@ class Proofs(Case):
     def test_no_such_crate(self):
         status, said, fault, checked = self.run_copy(f"{self.top}/bench/proofs", "numbers", "number")
         self.assertEqual((status, said, checked), (2, [], []))
-        self.assertEqual(fault.splitlines()[-1], "bench/proofs: error: there is no crate number")
+        self.assertEqual(fault.splitlines()[-1], "bench/try proofs: there is no crate number")
         self.assertEqual(self.run_copy(f"{self.top}/test", "--proofs")[0], 2)

@@ -64,6 +64,12 @@ class Prose(Case):
             "a sentence has 20.0 words on average; the bound is below 20",
             "a sentence has 41 words; the bound is 40", "house words: told 2, anew 1"])
 
+    def test_the_newest_part_of_the_change_log(self):
+        log = "# Changes\n\n## 2.0.0\n\nNew.\n\n## 1.0.0\n\nIt was told anew.\n"
+        prose = loaded("prose")
+        self.assertEqual(prose.counted_part("CHANGELOG.md", log), "# Changes\n\n## 2.0.0\n\nNew.\n")
+        self.assertEqual(prose.counted_part("docs/page.md", log), log)
+
     def test_without_style(self):
         with tempfile.TemporaryDirectory() as room:
             path = commands_in(room, "python3", "env")
@@ -71,7 +77,8 @@ class Prose(Case):
                 0, "bench/prose: style is missing, so no page was counted: apt-get install diction\n", ""))
 
     def test_arguments(self):
-        self.assertEqual(run("prose", "--chek"), (3, "", "usage: bench/prose [--check | PAGE..]\n"))
+        self.assert_wrong(run("prose", "--chek"), "prose", "unrecognized arguments: --chek")
+        self.assert_wrong(run("prose", "--check", "README.md"), "prose", "--check takes no PAGE")
 
 
 @unittest.skipUnless(shutil.which("style"), "style is missing")

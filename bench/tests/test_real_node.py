@@ -152,7 +152,7 @@ class Counted(Case):
         self.assertEqual(counts, {
             "starts": (2, 2, 0, 0, 0), "exits with their codes": (1, 0, 0, 1, 1),
             "kills by a liveness probe": (1, 0, 0, 1, 0), "ready": (2, 2, 0, 0, 0), "unready": (2, 2, 0, 0, 0),
-            "evictions by the rules": (1, 1, 0, 0, 0), "evictions told as a fact": (1, 1, 0, 0, 0),
+            "evictions by the rules": (1, 1, 0, 0, 0), "evictions shown as a fact": (1, 1, 0, 0, 0),
             "pods ended as evicted": (1, 1, 0, 0, 0), "pods that went": (1, 1, 0, 0, 0)})
         self.assertEqual(codes, ["00:00:09 shop/b app died 0 137: it was died 0 0"])
         self.assertEqual(rows[1].differences, [
@@ -357,5 +357,6 @@ class Scenarios(Case):
     def test_words(self):
         for words in ((), ("--api",), ("--api", "folder", "hard", "other"), ("folder", "some"), ("a", "1", "2"),
                       ("--again",), ("--again", "/nowhere")):
-            code, out, said = run("real_node", *words)
-            self.assertEqual((code, out, said.count("\n")), (2, "", 1), words)
+            code, out, said = run("try real_node", *words)
+            self.assertEqual((code, out), (2, ""), words)
+            self.assertTrue(said.splitlines()[-1].startswith("bench/try real_node: "), said)

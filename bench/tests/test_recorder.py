@@ -17,7 +17,7 @@ from replay_tools.record.summary import summary_of
 from replay_tools.record.lines import extended
 
 BEGUN = 1767225600
-LINES = r"""30 pods, 3 s, no words
+LINES = r"""30 pods, 3 s, no options
 processor seconds a minute: [0-9.]+ of the recorder, [0-9.]+ of crictl
 peak of memory: [0-9.]+ MB
 an hour: [0-9.]+ MB of lines, [0-9]+ kB packed
@@ -46,9 +46,10 @@ class Answers(Case):
 class Measured(Case):
     @unittest.skipUnless(shutil.which("openssl"), "openssl is missing")
     def test_a_short_run(self):
-        status, out, said = run("recorder", "3")
+        status, out, said = run("measure recorder", "3")
         self.assertEqual((status, said), (0, ""))
         self.assertRegex(out, f"^{LINES}$")
 
     def test_words(self):
-        self.assertEqual(run("recorder", "long"), (3, "", "usage: bench/recorder [--large] [SECONDS [WORD ..]]\n"))
+        self.assert_wrong(run("measure recorder", "long"), "measure recorder",
+                          "argument SECONDS: takes a whole number from 1, not 'long'")

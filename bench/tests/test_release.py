@@ -95,8 +95,8 @@ class Signed(Case):
             subprocess.run(words, cwd=room, check=True, capture_output=True)
         status, made, said = run("release", "--program", PROGRAM, "--sign", f"{room}/KEY.sec", room)
         self.assertEqual((status, made.splitlines()[3:]), (0, [f"{room}/SHA256SUMS", f"{room}/SHA256SUMS.sig"]), said)
-        [words] = [line[4:].split() for line in read(TOP, "bench/release").splitlines()
-                   if line.startswith(f"#   {signer} ")]
+        [words] = [line.split() for line in read(TOP, "bench/release").splitlines()
+                   if line.startswith(f"  {signer} ")]
         whole = subprocess.run(words, cwd=room, check=False, capture_output=True)
         self.assertEqual(whole.returncode, 0, whole.stderr)
         with open(f"{room}/SHA256SUMS", "a", encoding="utf-8") as file:

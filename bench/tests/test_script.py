@@ -2,11 +2,12 @@
 import contextlib
 import io
 import os
+import re
 import sys
 import tempfile
 from unittest import mock
 
-from common import TOP, Case, read, run, write
+from common import TOP, Case, loaded, read, run, write
 import script
 
 
@@ -42,10 +43,34 @@ class Script(Case):
             self.assertEqual(ended(fault(KeyboardInterrupt), word), (0, "It does this.\n", ""))
 
     def test_each_program_has_a_help(self):
-        for name in "gate hostile lint profile speed test ticks traces workers wrong_bodies".split():
+        for name in ("lint", "measure", "pages", "prose", "release", "test", "try",
+                     *(f"measure {suite}" for suite in loaded("measure").SUITES),
+                     *(f"try {each}" for each in loaded("try").TRIES)):
             status, said, fault_ = run(name, "--help")
             self.assertEqual((status, fault_), (0, ""), name)
-            self.assertIn(f"bench/{name} ", said)
+            self.assertTrue(said.startswith(f"usage: bench/{name} "), said)
+
+    def test_front_doors(self):
+        suites, tries = ", ".join(loaded("measure").SUITES), ", ".join(loaded("try").TRIES)
+        self.assert_wrong(run("measure"), "measure", "NAME is missing")
+        self.assert_wrong(run("measure", "all"), "measure", f"there is no all to measure; there are {suites}")
+        self.assert_wrong(run("try", "all"), "try", f"there is no all to try; there are {tries}")
+        names = ", ".join(loaded("pages").NAMES)
+        self.assert_wrong(run("pages", "all"), "pages", f"there is no all to write; there are {names}")
+        self.assertEqual(run("try", "version", "version"), (0, "", ""))
+
+    def test_old_names_are_entries_of_two_lines(self):
+        """Each starts a part of a front door that there is."""
+        parts = {"measure": loaded("measure").SUITES, "try": loaded("try").TRIES, "pages": loaded("pages").NAMES}
+        entries = 0
+        for name in sorted(os.listdir(f"{TOP}/bench")):
+            lines = read(TOP, "bench", name).splitlines() if os.access(f"{TOP}/bench/{name}", os.X_OK) \
+                and os.path.isfile(f"{TOP}/bench/{name}") else []
+            if found := re.fullmatch(r'exec "\$\(dirname "\$\(readlink -f "\$0"\)"\)/(\w+)" (\w+) "\$@"', lines[-1] if lines else ""):
+                self.assertEqual(len(lines), 2, name)
+                self.assertIn(found[2], parts[found[1]], name)
+                entries += 1
+        self.assertEqual(entries, 23)
 
     def test_commands_that_are_missing(self):
         script.need(sh="sh is missing", env="env is missing")

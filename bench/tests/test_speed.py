@@ -6,7 +6,8 @@ import os
 import tempfile
 from unittest import mock
 
-from common import COMMANDS, PATH_WITH_COMMANDS, TESTS, TOP, Case, commands_in, loaded, read, run, write
+from common import COMMANDS, PATH_WITH_COMMANDS, TESTS, TOP, Case, commands_in, read, run, write
+from measures import speed
 import script
 import speed_page
 from speed_page import Trace
@@ -36,8 +37,8 @@ class Runs(Case):
     """The runs of bench/speed over traces of some lines, where stand-ins are the program and the baseline."""
 
     def setUp(self):
-        self.speed, self.work = loaded("speed"), self.enterContext(tempfile.TemporaryDirectory())
-        self.speed.ROUNDS = 2
+        self.speed, self.work = speed, self.enterContext(tempfile.TemporaryDirectory())
+        self.enterContext(mock.patch.object(speed, "ROUNDS", 2))
         self.enterContext(mock.patch.dict(os.environ, PATH=PATH_WITH_COMMANDS))
         os.makedirs(os.path.dirname(f"{self.work}/{self.speed.BASELINE}"))
         write(BASELINE, self.work, self.speed.BASELINE)
@@ -51,7 +52,7 @@ class Runs(Case):
 
     def test_what_is_measured(self):
         measured, said = self.measured(f"{COMMANDS}/replay")
-        self.assertEqual(said, "bench/speed: round 1 of 2\nbench/speed: round 2 of 2\n")
+        self.assertEqual(said, "bench/measure speed: round 1 of 2\nbench/measure speed: round 2 of 2\n")
         self.assertEqual(measured.traces["many_pods"], Trace(1, 2, 0, 8, 2))
         self.assertEqual(measured.traces["ticks_6000"], Trace(1, 2, 0, 8, None))
         self.assertEqual(measured.seconds, dict.fromkeys(SECONDS, 0.5))
@@ -61,7 +62,7 @@ class Runs(Case):
     def test_runs_that_end_it(self):
         with self.assertRaises(script.Fault) as fault:
             self.measured(f"{COMMANDS}/other_replay")
-        self.assertEqual(str(fault.exception), "the report of many_pods with workers=2 is not that of 1 worker")
+        self.assertEqual(str(fault.exception), "the report of many_pods with workers=2 is not the report of 1 worker")
         with self.assertRaises(script.Fault) as fault:
             self.measured("/bin/false")
         self.assertEqual(str(fault.exception),
@@ -99,14 +100,14 @@ class Page(Case):
 
     def test_words(self):
         for words in (("--all",), ("--write", "-x"), ("/bin/true", "2")):
-            self.assertEqual(run("speed", *words), (3, "", "usage: bench/speed [--write] [PROGRAM]\n"))
+            self.assert_wrong(run("measure speed", *words), "measure speed", f"unrecognized arguments: {words[-1]}")
         with tempfile.TemporaryDirectory() as room:
             path = commands_in(room, "python3", "env")
-            self.assertEqual(run("speed", PATH=path), (
-                127, "", "bench/speed: the Rattle kit is missing: put its command rt on the PATH\n"))
+            self.assertEqual(run("measure speed", PATH=path), (
+                127, "", "bench/measure speed: the Rattle kit is missing: put its command rt on the PATH\n"))
             os.symlink("/bin/true", f"{path}/rt")
-            self.assertEqual(run("speed", PATH=path), (
-                127, "", "bench/speed: cargo is missing; it builds the baseline\n"))
+            self.assertEqual(run("measure speed", PATH=path), (
+                127, "", "bench/measure speed: cargo is missing; it builds the baseline\n"))
             os.symlink("/bin/true", f"{path}/cargo")
-            self.assertEqual(run("speed", PATH=path), (
-                127, "", "bench/speed: hyperfine is missing: apt-get install hyperfine; it measures the seconds\n"))
+            self.assertEqual(run("measure speed", PATH=path), (
+                127, "", "bench/measure speed: hyperfine is missing: apt-get install hyperfine; it measures the seconds\n"))

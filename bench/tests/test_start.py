@@ -3,7 +3,8 @@ import os
 import subprocess
 import tempfile
 
-from common import Case, loaded, read, run, write
+from common import Case, read, run, write
+from measures import start
 
 EARLIER = "## Program\nkubelet_replay:\n"
 NOW = ("## Base\nworker_count:\n## Program\nkubelet_replay: worker_count\n## Tests\n"
@@ -35,7 +36,7 @@ class Start(Case):
 
     def test_what_is_laid_over_the_start(self):
         folder = f"{self.room}/start"
-        said = list(loaded("start").lay(self.top, folder, self.commit))
+        said = list(start.lay(self.top, folder, self.commit))
         self.assertEqual(said, [f"{folder}: the tree of {self.commit}", "over it: bench/ of this checkout",
                                 "over it: crates/worker_count of this checkout, and its line of crates.txt",
                                 "over it: crates/replay_workloads of this checkout, and its line of crates.txt"])
@@ -47,9 +48,11 @@ class Start(Case):
         self.assertFalse(os.path.exists(f"{folder}/crates/calls_tests"))
 
     def test_a_folder_that_is_there(self):
-        status, _, said = run("start", self.room)
-        self.assertEqual((status, said), (2, f"bench/start: {self.room} is there already\n"))
+        status, _, said = run("measure start", self.room)
+        self.assertEqual((status, said), (2, f"bench/measure start: {self.room} is there already\n"))
 
     def test_words(self):
-        for words in ((), ("--prove",), ("a", "b"), ("-x",)):
-            self.assertEqual(run("start", *words), (3, "", "usage: bench/start [--prove] FOLDER\n"))
+        for words, error in (((), "the following arguments are required: FOLDER"),
+                             (("--prove",), "the following arguments are required: FOLDER"),
+                             (("a", "b"), "unrecognized arguments: b")):
+            self.assert_wrong(run("measure start", *words), "measure start", error)

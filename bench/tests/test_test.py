@@ -55,6 +55,6 @@ class Test(Case):
 
     def test_names(self):
         self.assertEqual(self.run_copy("none"), (0, "0 passed, 0 failed\n", ""))
-        for words in (("all",), ("none", "--all")):
-            self.assertEqual(self.run_copy(*words), (
-                2, "", f"bench/test: there are no tests {words[-1]}; there are none, some\n"))
+        self.assertEqual(self.run_copy("none", "all"), (
+            2, "", "bench/test: there are no tests all; there are none, some\n"))
+        self.assert_wrong(self.run_copy("none", "--all"), "test", "unrecognized arguments: --all")

@@ -1,19 +1,20 @@
 """Tests of bench/theorem. theorem/small is a repository with the pages that belong to it; each folder of theorem/faults
-has files that are laid over it, and `said`, what bench/theorem --check then prints on standard error. The names of
-their sources end in `.text`, since the gate accepts a crate's sources only in crates/."""
+has files that are laid over it, and the file `said` with what bench/theorem --check then prints on standard error. The
+names of their sources end in `.text`, since the gate accepts a crate's sources only in crates/."""
 import os
 import re
 import tempfile
 
-from common import SMALL, TESTS, Case, lay_over, loaded, read, run, write
+from common import SMALL, TESTS, Case, lay_over, read, run, write
 import entries
 import first_page
 import links
 import pages
 import reach
+from writers import theorem
 
 FAULTS = os.path.join(TESTS, "theorem/faults")
-NAMING = ("rules.md", "formats.md", "extended.md", "report.md", "quantities.md")
+NAMING = ("rules.md", "formats.md", "extended.md", "report.md")
 CRATES = ("kubelet_replay", "grading", "text", "marks")
 PAGES = ("theorem.md", *(f"theorem/{crate}.md" for crate in CRATES), *NAMING)
 GRADE = "crates/grading/specs/rule/Grade.antt"
@@ -42,7 +43,7 @@ class Private(Case):
             node = reach.Node(kind, "marks", "lib.rt", name, "", words, "lib.rt", 1,
                               [("marks", "lib.rt", other) for other in below])
             nodes[node.key] = node
-        return loaded("theorem").private_in(nodes)
+        return theorem.private_in(nodes)
 
     def test_a_field_of_the_same_name_in_another_type_does_not_count(self):
         self.assertEqual(self.faults("of_share s = 0"),
@@ -126,7 +127,7 @@ class Theorem(Case):
         os.rmdir(os.path.join(self.top, "docs/theorem"))
         for page in NAMING:
             write(read(self.top, "docs", page).partition("\n<!--")[0], self.top, "docs", page)
-        self.assertEqual(run("theorem", "--top", self.top), (0, "", ""))
+        self.assertEqual(run("pages theorem", "--top", self.top), (0, "", ""))
         self.has_the_pages()
 
     def test_a_line_more_above_a_definition_changes_no_page(self):
@@ -137,12 +138,12 @@ class Theorem(Case):
 
     def test_a_page_that_no_definition_has_is_removed(self):
         write("# The crate gone\n", self.top, "docs/theorem/gone.md")
-        self.assertEqual(run("theorem", "--top", self.top), (0, "", ""))
+        self.assertEqual(run("pages theorem", "--top", self.top), (0, "", ""))
         self.has_the_pages()
 
     def test_a_missing_page_is_said(self):
         os.remove(os.path.join(self.top, "docs/theorem/text.md"))
-        status, _, said = run("theorem", "--check", "--top", self.top)
+        status, _, said = run("pages theorem", "--check", "--top", self.top)
         self.assertEqual((status, said),
                          (1, "bench/theorem: docs/theorem/text.md is missing: run bench/theorem\n"))
 
@@ -151,7 +152,7 @@ class Theorem(Case):
         write("//! Grades.\n\npub use marks::Source;\n", self.top, "crates/grading/src/lib.rt")
         lib = read(self.top, "crates/kubelet_replay/src/lib.rt")
         write(lib.replace("use marks::Source;", "use grading::Source;"), self.top, "crates/kubelet_replay/src/lib.rt")
-        self.assertEqual(run("theorem", "--check", "--top", self.top)[::2], (0, ""))
+        self.assertEqual(run("pages theorem", "--check", "--top", self.top)[::2], (0, ""))
 
     def test_a_long_module_has_pages_with_parts(self):
         """Eighty definitions, which one names, in a module next to that which is there."""
@@ -162,8 +163,8 @@ class Theorem(Case):
               self.top, "crates/grading/specs/rule/Many.antt")
         grade = read(self.top, GRADE).replace("\n\n", "\nuse Rattle.grading.specs.rule.Many.{all_marks}\n\n", 1)
         write(grade + "  pub all : p ≡ length all_marks\n", self.top, GRADE)
-        self.assertEqual(run("theorem", "--top", self.top), (0, "", ""))
-        self.assertEqual(run("theorem", "--check", "--top", self.top)[::2], (0, ""))
+        self.assertEqual(run("pages theorem", "--top", self.top), (0, "", ""))
+        self.assertEqual(run("pages theorem", "--check", "--top", self.top)[::2], (0, ""))
         texts = {name: read(self.top, "docs/theorem", name) for name in os.listdir(f"{self.top}/docs/theorem")}
         self.assertEqual(sorted(texts), sorted([*(f"{crate}.md" for crate in CRATES), "grading-Many.md",
                                                 "grading-Many-2.md"]))
@@ -178,7 +179,7 @@ class Theorem(Case):
 
     def test_a_page_that_cannot_be_cut_is_said(self):
         write(read(self.top, GRADE) + "  pub more : p ≡ 1\n" * pages.MOST, self.top, GRADE)
-        self.assertEqual(run("theorem", "--top", self.top),
+        self.assertEqual(run("pages theorem", "--top", self.top),
                          (1, "", f"bench/theorem: docs/theorem/grading.md has more than {pages.MOST} lines\n"))
 
     def test_faults_are_said(self):
@@ -186,5 +187,5 @@ class Theorem(Case):
             with self.subTest(name), tempfile.TemporaryDirectory() as copy:
                 lay_over(SMALL, copy)
                 lay_over(os.path.join(FAULTS, name), copy)
-                status, _, said = run("theorem", "--check", "--top", copy)
+                status, _, said = run("pages theorem", "--check", "--top", copy)
                 self.assertEqual((status, said), (1, read(FAULTS, name, "said")))

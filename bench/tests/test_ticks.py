@@ -67,7 +67,7 @@ class Timing(Case):
 
 class Ticks(Case):
     def test_the_tables(self):
-        status, said, fault = run("ticks", "/bin/true", PATH=PATH_WITH_COMMANDS)
+        status, said, fault = run("measure ticks", "/bin/true", PATH=PATH_WITH_COMMANDS)
         self.assertEqual((status, fault), (0, ""))
         lines = said.splitlines()
         self.assertEqual(lines[0], " ticks      bytes  seconds    MB/s  peak MB")
@@ -86,11 +86,12 @@ class Ticks(Case):
 
     def test_words(self):
         for words in (("--all",), ("/bin/true", "2000")):
-            self.assertEqual(run("ticks", *words, PATH=PATH_WITH_COMMANDS), (3, "", "usage: bench/ticks [PROGRAM]\n"))
-        self.assertEqual(run("ticks", "/nowhere", PATH=PATH_WITH_COMMANDS), (
-            2, "", "bench/ticks: there is no program /nowhere\n"))
-        self.assertEqual(run("ticks", "/bin/false", PATH=PATH_WITH_COMMANDS)[::2], (
-            1, "bench/ticks: the program ended with 1\n"))
+            answer = run("measure ticks", *words, PATH=PATH_WITH_COMMANDS)
+            self.assert_wrong(answer, "measure ticks", f"unrecognized arguments: {words[-1]}")
+        self.assertEqual(run("measure ticks", "/nowhere", PATH=PATH_WITH_COMMANDS), (
+            2, "", "bench/measure ticks: there is no program /nowhere\n"))
+        self.assertEqual(run("measure ticks", "/bin/false", PATH=PATH_WITH_COMMANDS)[::2], (
+            1, "bench/measure ticks: the program ended with 1\n"))
         with tempfile.TemporaryDirectory() as room:
-            self.assertEqual(run("ticks", "/bin/true", PATH=commands_in(room, "python3", "env")), (
-                127, "", "bench/ticks: hyperfine is missing: apt-get install hyperfine; it measures the seconds\n"))
+            self.assertEqual(run("measure ticks", "/bin/true", PATH=commands_in(room, "python3", "env")), (
+                127, "", "bench/measure ticks: hyperfine is missing: apt-get install hyperfine; it measures the seconds\n"))

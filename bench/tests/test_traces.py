@@ -42,12 +42,12 @@ class Traces(Case):
     def test_they_are_written_where_they_are_missing(self):
         with tempfile.TemporaryDirectory() as room:
             folder = os.path.join(room, "new")
-            self.assertEqual(run("traces", folder, "small_ticks", "small_lines"), (0, "", ""))
+            self.assertEqual(run("measure traces", folder, "small_ticks", "small_lines"), (0, "", ""))
             self.assertEqual(sorted(os.listdir(folder)), ["small_lines.trace", "small_ticks.trace"])
             with open(f"{folder}/small_ticks.trace", encoding="ascii") as file:
                 self.assertEqual(sum_of(file.read().splitlines()), SUMS["small_ticks"])
             write("kept", folder, "small_ticks.trace")
-            self.assertEqual(run("traces", folder, "small_ticks"), (0, "", ""))
+            self.assertEqual(run("measure traces", folder, "small_ticks"), (0, "", ""))
             self.assertEqual(os.path.getsize(f"{folder}/small_ticks.trace"), 4)
 
     def test_a_trace_that_is_too_large(self):
@@ -55,8 +55,7 @@ class Traces(Case):
             traces.write(traces.Shape(40_000, 1, 3), f"{room}/trace")
 
     def test_words(self):
-        for words in ((), ("--all",)):
-            self.assertEqual(run("traces", *words), (3, "", "usage: bench/traces FOLDER [NAME..]\n"))
-        status, said, fault = run("traces", "/nowhere", "small")
-        self.assertEqual((status, said), (3, ""))
-        self.assertTrue(fault.startswith("bench/traces: there is no trace small; there are many_pods, many_ticks, "))
+        self.assert_wrong(run("measure traces"), "measure traces", "the following arguments are required: FOLDER")
+        status, said, fault = run("measure traces", "/nowhere", "small")
+        self.assertEqual((status, said), (2, ""))
+        self.assertTrue(fault.startswith("bench/measure traces: there is no trace small; there are many_pods, many_ticks, "))

@@ -112,7 +112,7 @@ class Whole(Case):
                 status, said, _ = self.run_copy(fails=name)
                 count = 2 if name == "test" else 1
                 self.assertEqual((status, said[-1]), (1, f"47 passed, {count} failed"))
-                self.assertIn("test: what the parts that failed told at their ends:", said)
+                self.assertIn("test: the ends of the output of the parts that failed:", said)
 
     def test_proofs_that_fail(self):
         status, said, _ = self.run_copy(faults=1)

@@ -9,7 +9,6 @@ import helgrind
 import workers_trace
 
 REPLAY, OTHER = f"{COMMANDS}/replay", f"{COMMANDS}/other_replay"
-USAGE = "usage: bench/workers [--same [RUNS] | --helgrind] [PROGRAM]\n"
 SUMMARY = "ERROR SUMMARY: 3 errors from 3 contexts (suppressed: 7 from 7)"
 KINDS = {"Thread unlocked a not-locked lock at ADDRESS": 1, "Possible data race during write": 1,
          "Possible data race during read": 1}
@@ -35,15 +34,15 @@ class Helgrind(Case):
 
 class Workers(Case):
     def test_reports_that_are_the_same(self):
-        self.assertEqual(run("workers", "--same", "2", REPLAY), (
-            0, "2 runs with 4 workers and 2 with 64: each report is that of 1 worker, 58 bytes\n", ""))
+        self.assertEqual(run("measure workers", "--same", "--runs", "2", REPLAY), (
+            0, "2 runs with 4 workers and 2 with 64: each report is the report of 1 worker, 58 bytes\n", ""))
 
     def test_reports_that_differ(self):
-        self.assertEqual(run("workers", "--same", OTHER), (
+        self.assertEqual(run("measure workers", "--same", OTHER), (
             1, "", "run 1 with workers=4 differs from 1 worker at line 3:\nb''\nb'more\\n'\n"))
 
     def test_costs(self):
-        status, said, fault = run("workers", REPLAY, PATH=PATH_WITH_COMMANDS)
+        status, said, fault = run("measure workers", REPLAY, PATH=PATH_WITH_COMMANDS)
         self.assertEqual((status, fault), (0, ""))
         lines = said.splitlines()
         self.assertRegex(lines[0], r"^256 pods by 500 ticks, 35\.8 MB of trace; processors: \d+$")
@@ -53,23 +52,27 @@ class Workers(Case):
         self.assertEqual(lines[5:], ["all reports are the same"])
 
     def test_reports_of_helgrind(self):
-        status, said, fault = run("workers", "--helgrind", REPLAY, PATH=PATH_WITH_COMMANDS)
+        status, said, fault = run("measure workers", "--helgrind", REPLAY, PATH=PATH_WITH_COMMANDS)
         self.assertEqual((status, fault), (0, ""))
         self.assertEqual(said.splitlines(), [SUMMARY, *(f"      1 {kind}" for kind in KINDS),
-                                             "the report is that of 1 worker"])
+                                             "the report is the report of 1 worker"])
 
     def test_a_run_that_fails(self):
-        self.assertEqual(run("workers", "--same", "/bin/false"), (
-            1, "", "bench/workers: with workers=1 the program ended with 1\n"))
-        self.assertEqual(run("workers", "/bin/false", PATH=PATH_WITH_COMMANDS)[::2], (
-            1, "bench/workers: with workers=1 the program ended with 1\n"))
+        self.assertEqual(run("measure workers", "--same", "/bin/false"), (
+            1, "", "bench/measure workers: with workers=1 the program ended with 1\n"))
+        self.assertEqual(run("measure workers", "/bin/false", PATH=PATH_WITH_COMMANDS)[::2], (
+            1, "bench/measure workers: with workers=1 the program ended with 1\n"))
 
     def test_words(self):
-        for words in (("--all",), ("/bin/true", "/bin/true"), ("--same", "0", REPLAY), ("--same", "2", REPLAY, "3")):
-            self.assertEqual(run("workers", *words), (3, "", USAGE), words)
-        self.assertEqual(run("workers", "--same", "/nowhere"), (2, "", "bench/workers: there is no program /nowhere\n"))
+        for words, error in (
+                (("--all",), "unrecognized arguments: --all"), ((REPLAY, "3"), "unrecognized arguments: 3"),
+                (("--same", "--helgrind"), "argument --helgrind: not allowed with argument --same"),
+                (("--same", "--runs", "0"), "argument --runs: takes a whole number from 1, not '0'")):
+            self.assert_wrong(run("measure workers", *words), "measure workers", error)
+        self.assertEqual(run("measure workers", "--same", "/nowhere"), (
+            2, "", "bench/measure workers: there is no program /nowhere\n"))
         with tempfile.TemporaryDirectory() as room:
-            self.assertEqual(run("workers", "--helgrind", PATH=commands_in(room, "python3", "env")), (
-                127, "", "bench/workers: valgrind is missing; helgrind is a part of it\n"))
-            self.assertEqual(run("workers", REPLAY, PATH=f"{room}/commands"), (
-                127, "", "bench/workers: hyperfine is missing: apt-get install hyperfine; it measures the seconds\n"))
+            self.assertEqual(run("measure workers", "--helgrind", PATH=commands_in(room, "python3", "env")), (
+                127, "", "bench/measure workers: valgrind is missing; helgrind is a part of it\n"))
+            self.assertEqual(run("measure workers", REPLAY, PATH=f"{room}/commands"), (
+                127, "", "bench/measure workers: hyperfine is missing: apt-get install hyperfine; it measures the seconds\n"))

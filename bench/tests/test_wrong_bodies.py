@@ -13,7 +13,7 @@ import shelf
 HERE = os.path.join(TESTS, "wrong_bodies")
 CLAUSE = "src/lib.rt:10:5: the clause (`kept`)"
 LINES = """\
-marks: proved as it stands, 0 s
+marks: proved without an edit, 0 s
 marks/a_clause: 0 s: clause: src/lib.rt:10:5: the clause (`kept`)
 marks/b_proof: 0 s: proof file only: proofs/Lib.antt:4:1: error: Wrong is not in scope
 marks/c_proved: 0 s: still proved:{space}
@@ -21,7 +21,7 @@ marks/d_killed: 0 s: NOT CHECKED: == marks
 marks/e_twice: 0 s: BAD EDIT: it does not fit the file that it names
 marks/f_no_file: 0 s: BAD EDIT: it does not fit the file that it names
 marks/g_pairs: 0 s: clause: src/lib.rt:10:5: the clause (`kept`)
-refused by a clause: 2; only because a proof file no longer fits: 1; still proved: 1; NOT CHECKED: 1; BAD EDIT: 2
+rejected by a clause: 2; only because a proof file no longer fits: 1; still proved: 1; NOT CHECKED: 1; BAD EDIT: 2
 """.format(space=" ")
 
 
@@ -134,7 +134,7 @@ class Whole(Case):
             os.remove(f"{self.top}/crates/marks/wrong-bodies/{name}.edit")
         status, said, _ = self.tried("marks", "text")
         self.assertEqual((status, said.splitlines()[-1]), (
-            0, "refused by a clause: 2; only because a proof file no longer fits: 1"))
+            0, "rejected by a clause: 2; only because a proof file no longer fits: 1"))
         self.assertEqual(self.found(), "crate\tedits\tclause\tproof file only\tstill proved\tseconds\n"
                                        "marks\t3\t2\t1\t0\t0\n")
 
@@ -149,7 +149,7 @@ class Whole(Case):
         status, said, _ = self.tried("--since", "HEAD", "marks")
         self.assertEqual((status, said.splitlines()[1:]), (0, [
             f"marks/h_new: 0 s: clause: {CLAUSE}",
-            "refused by a clause: 1; only because a proof file no longer fits: 0"]))
+            "rejected by a clause: 1; only because a proof file no longer fits: 0"]))
         self.assertIn("marks\t3\t3\t0\t0\t0\n", self.found())
         # of a row that has not all of the others nothing is known
         shutil.copy(f"{HERE}/edits/a_clause.edit", f"{self.top}/crates/marks/wrong-bodies/i_new.edit")
@@ -157,14 +157,14 @@ class Whole(Case):
         self.assertEqual(self.tried("--since", "HEAD")[0], 0)
         self.assertIn("marks\t0\t0\t0\t0\t0\n", self.found())
         self.assertEqual(self.tried("--since", "nothing")[0], 2)
-        self.assertEqual(self.tried("--since"), (2, "", "bench/wrong_bodies: --since takes a commit\n"))
+        self.assert_wrong(self.tried("--since"), "try wrong_bodies", "argument --since: expected one argument")
 
     def test_edits_of_the_gate(self):
         self.shelf("must-fail", ["a_clause.edit"])
         status, said, _ = self.tried("--gate")
         self.assertEqual((status, said.splitlines()[1:]), (0, [
             f"marks/a_clause: 0 s: clause: {CLAUSE}",
-            "refused by a clause: 1; only because a proof file no longer fits: 0"]))
+            "rejected by a clause: 1; only because a proof file no longer fits: 0"]))
         self.assertIsNone(self.found())
         shutil.copy(f"{HERE}/edits/b_proof.edit", f"{self.top}/crates/marks/must-fail")
         self.assertEqual(self.tried("--gate", "marks")[0], 1)
@@ -173,11 +173,11 @@ class Whole(Case):
         write("Refused", self.top, "crates/marks/src/lib.rt")
         status, said, _ = self.tried()
         self.assertEqual((status, said.splitlines()[0], said.splitlines()[-1]), (
-            1, "marks: NOT PROVED as it stands, 0 s",
-            "refused by a clause: 0; only because a proof file no longer fits: 0; NOT PROVED: 1"))
+            1, "marks: NOT PROVED without an edit, 0 s",
+            "rejected by a clause: 0; only because a proof file no longer fits: 0; NOT PROVED: 1"))
 
     def test_words(self):
-        self.assertEqual(self.tried("nothing"), (2, "", "bench/wrong_bodies: there is no crate nothing\n"))
+        self.assertEqual(self.tried("nothing"), (2, "", "bench/try wrong_bodies: there is no crate nothing\n"))
         path = commands_in(self.top, "python3", "env")
-        self.assertEqual(run("wrong_bodies", PATH=path), (
-            127, "", "bench/wrong_bodies: the Rattle kit is missing: put its command rt on the PATH\n"))
+        self.assertEqual(run("try wrong_bodies", PATH=path), (
+            127, "", "bench/try wrong_bodies: the Rattle kit is missing: put its command rt on the PATH\n"))

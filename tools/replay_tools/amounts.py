@@ -1,4 +1,4 @@
-"""Quantities, percentages and durations of a trace, as docs/quantities.md has them, and amounts as a person reads
+"""Quantities, percentages and durations of a trace, as docs/formats.md has them, and amounts as a person reads
 them."""
 
 from __future__ import annotations

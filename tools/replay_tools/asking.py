@@ -128,7 +128,7 @@ def trace_of(report: reports.Report, path: str, watch: Callable[..., Any] | None
     except traces.TraceFault as fault:
         raise entry.Fault(str(fault)) from None
     except amounts.Wrong:
-        raise entry.Fault(f"{path} has a tick line that is none (kubelet-replay explain shows which)") from None
+        raise entry.Fault(f"{path} has an invalid tick line (kubelet-replay explain shows it)") from None
     return trace
 
 
@@ -175,4 +175,4 @@ def of_whole_ticks(gather: Callable[..., Any]) -> Any:
     try:
         return gather()
     except amounts.Wrong:
-        raise entry.Fault("the trace has a tick line that is none (kubelet-replay explain shows which)") from None
+        raise entry.Fault("the trace has an invalid tick line (kubelet-replay explain shows it)") from None

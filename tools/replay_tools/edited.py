@@ -143,7 +143,7 @@ class Comparison:
         done = subprocess.run(["diff", "-U", "0", self.path("report"), self.path("edited_report")],
                               stdin=subprocess.DEVNULL, stdout=subprocess.PIPE, check=False)
         if done.returncode > 1:
-            raise entry.Fault(f"there is no place in {folder_of_copies()} for what differs {OTHER_FOLDER}",
+            raise entry.Fault(f"there is no room in {folder_of_copies()} for the lines that differ {OTHER_FOLDER}",
                               Status.FAILED)
         lines = done.stdout.decode("utf-8", "replace").split("\n")[2:]
         return "".join(f"{line[0]} {line[1:]}\n" for line in lines if line.startswith(("+", "-")))

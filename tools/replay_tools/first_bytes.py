@@ -9,7 +9,7 @@ LOOKED_AT = 1 << 16
 
 EMPTY, BLANK, REPORT, TRACE = "empty", "blank", "a report", "a trace"
 MANIFEST, MANIFESTS, RECORDS, YAML = "a manifest", "manifests", "lines of kubelet-replay json", "YAML"
-REFUSAL = "what the program says of a trace that it refuses"
+REFUSAL = "an error of the program about a trace"
 
 PACKED = {
     b"\x1f\x8b": ("packed by gzip", "gzip -dc"), b"\x28\xb5\x2f\xfd": ("packed by zstd", "zstd -dc"),

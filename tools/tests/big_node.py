@@ -1,5 +1,5 @@
-"""Makes a great trace and its report, to try how quick a page is. The report is made by hand as the trace is, and is
-not what the program says of it: its events are where the trace has them, and its evictions are made up."""
+"""Makes a large trace and its report, to measure how fast a page is. This script makes the report too, not the program:
+its events are where the trace has them, and its evictions are made up."""
 
 import collections
 import json

@@ -379,7 +379,7 @@ return [...canvas.getContext('2d').getImageData(x * scale, y * scale, 1, 1).data
 
 
 def check_said(chromedriver, path):
-    """What the kubelet said stands among the events of a story, and is told where a pointer is."""
+    """What the kubelet reported is among the events of a story, and a pointer shows it."""
     with Page(chromedriver, path) as page:
         page.click(".pod .name", 0)
         told = page.text("#panel")
@@ -404,7 +404,7 @@ def check_gap(chromedriver, path):
         page.click(".pod .name", page.texts(".pod .name").index("shop/web"))
         tell("says in a story what is not known", [words in page.text("#panel") for words in (
             "started (attempt 4) (by then, in the gap since 2026-01-01 00:00:40Z)",
-            "restart backed off by 10 s (exits counted anew since 2026-01-01 00:00:20Z)")], [True, True])
+            "restart backed off by 10 s (exits counted only since 2026-01-01 00:00:20Z)")], [True, True])
         page.press(Keys.ESCAPE)
         tell("tells what was before it", page.tip(row, 36 / 81, 20).split("\n")[1], "app: running, attempt 2")
         tell("tells what was behind it", page.tip(row, 65 / 81, 20).split("\n")[1], "app: running, attempt 4")

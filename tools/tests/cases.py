@@ -24,12 +24,12 @@ class Case(unittest.TestCase):
 
     @property
     def name(self):
-        """That of the function."""
+        """The name of the function."""
         return self._testMethodName
 
     @property
     def whole_name(self):
-        """With that of the module, since functions of two modules may have one name."""
+        """The name after the module's name, since functions of two modules may have one name."""
         return f"{type(self).__module__}.{self.name}"
 
     def of_function(self, function):

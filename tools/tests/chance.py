@@ -1,5 +1,5 @@
-"""A node made by chance, as a play: pods that stay, that go and come again under their names, of which some are deleted
-while their objects stay, that are evicted, and that are refused."""
+"""A random node, as a script of its pods. Pods stay, or go and come again under their names. Some are deleted while
+their objects stay, some are evicted, and some are not admitted."""
 
 BEGIN = 1767225600
 SECONDS = 60
@@ -95,7 +95,7 @@ def evict(chance, life, made):
 
 
 def live(chance, play, life, look, fate):
-    """Adds what happens in the life of one pod to a play: its containers and the results of their probes."""
+    """Adds the life of one pod to a script: its containers and the results of their probes."""
     made_of = {}
     for container in life["spec"]["containers"]:
         first = life["from"] + chance.uniform(0.1, 3) if life["from"] else chance.uniform(-20, 3)
@@ -130,7 +130,7 @@ def lives_of(chance, play, number, look):
 
 
 def play_of(chance, look):
-    """A play of some pods, for a recorder that looks each this many seconds."""
+    """A script of some pods, for a recorder that polls each this many seconds."""
     play = {"begin": BEGIN, "pods": {}, "containers": [], "probes": [], "fails": faults(chance),
             # a kubelet takes a new sample once a pod that it evicted is cleaned up
             "samples": {str(moment): {"memory": 4294967296 - moment} for moment in range(-1, SECONDS, 3)}}

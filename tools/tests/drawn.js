@@ -1,5 +1,5 @@
-// Runs the scripts of a page of tools/page without a browser, with as much of a document as they want, opens the story
-// of a pod, and writes as JSON what its charts of memory and processor time draw and say. test_page.py runs it by node.
+// Runs the scripts of a page of tools/page without a browser, with as much of a document as they need, opens the story
+// of a pod, and writes as JSON what its charts of memory and processor time draw and show. test_page.py runs it by node.
 //
 // usage: node drawn.js PAGE.html POD light|dark MOMENT ..
 'use strict';

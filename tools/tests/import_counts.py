@@ -1,8 +1,8 @@
-"""Counts what an imported trace says next to what a kubelet did: `import_counts.py LEVEL[,LEVEL ..] FOLDER ..` prints a
-table for each level of verbosity, and what is not in the trace; `import_counts.py keep FOLDER INTO` makes a recording
-of the tests out of a run. A run's folder has kubelet.log.xz, a log at -v=4, shown.jsonl.xz, the kubelet's /pods twice a
-second, ctr-events.gz, the runtime's events, and watch.jsonl.gz, the pods' objects. One that bench/real_node --api keeps
-is counted by that itself."""
+"""Counts what an imported trace has of what a kubelet did. `import_counts.py LEVEL[,LEVEL ..] FOLDER ..` prints a table
+for each level of verbosity, and what is not in the trace. `import_counts.py keep FOLDER INTO` makes a recording of the
+tests from a run. A run's folder has kubelet.log.xz, a log at -v=4, shown.jsonl.xz, the kubelet's /pods twice a second,
+ctr-events.gz, the runtime's events, and watch.jsonl.gz, the pods' objects. bench/real_node --api itself counts the runs
+that it keeps."""
 
 import gzip
 import json

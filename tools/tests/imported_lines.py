@@ -79,7 +79,7 @@ def pod(name="web", uid=UID, containers=("app",), **spec):
 
 
 def imported(given, pods=(), journals=(), words=()):
-    """The status of an import, the records of its trace, and what it says."""
+    """The status of an import, the records of its trace, and its messages."""
     with tempfile.TemporaryDirectory() as folder:
         named = []
         for number, text in enumerate((given, *journals)):

@@ -1,4 +1,4 @@
-"""Plays that are recorded into a folder, and the traces that come of them."""
+"""Scripted nodes that are recorded into a folder, and the traces that result."""
 
 import glob
 import gzip
@@ -18,7 +18,7 @@ from replay_tools.record.words import words_of
 
 
 class Clock:
-    """One that stands but for its waits."""
+    """A clock that goes on only while somebody waits."""
 
     def __init__(self, moment):
         self.moment = moment
@@ -48,7 +48,7 @@ class ClockUntil(Clock):
 
 
 class Into:
-    """A folder that plays are recorded into."""
+    """A folder into which scripted nodes are recorded."""
 
     def __init__(self, play, recording=None):
         self.run = tempfile.mkdtemp()
@@ -59,7 +59,7 @@ class Into:
             json.dump(play, file)
 
     def record(self, *words, before=()):
-        """The answer of a recording of the play, which another command may start."""
+        """The answer of a recording of the script, which another command may start."""
         return run([*before, f"{HERE}/commands/played_record", "--node", "n1", *words],
                    PATH=f"{HERE}/commands:{os.environ['PATH']}", RECORDING=self.recording, RUN=self.run)
 
@@ -86,7 +86,7 @@ class Into:
 
 
 def recorded_here(into, clock, *words):
-    """Records a play in this process, which may replace the system; what is said."""
+    """Records a script in this process, which may replace the system; returns the messages."""
     play, said = Play(f"{into.run}/play.json"), []
     sources = Sources("n1", run=lambda asked, _: play.answer(asked, clock.now()))
     words = words_of(["--node", "n1", "--into", into.folder, *words])
@@ -123,7 +123,7 @@ def laid(texts):
 
 
 def series(pod, container, probe, moments, failures=()):
-    """Results of a probe, as a play has them."""
+    """Results of a probe, as a script has them."""
     return [{"pod": pod, "container": container, "probe": probe, "result": result, "at": at} for result, at in (
         ("success", [moment for moment in moments if moment not in failures]), ("failure", list(failures))) if at]
 
@@ -146,7 +146,7 @@ PROBED = {
 
 def probed_play():
     """What a rotation could lose: startup that has passed, one that fails over it, a delay that is over, failures
-    before it that order a kill after it, readiness that wants two successes, a sidecar that was started and has exited,
+    before it that order a kill after it, readiness that needs two successes, a sidecar that was started and has exited,
     a container that the runtime has removed, and one that is unknown."""
     made = [{"id": f"c{number}", "pod": f"shop/{name}", "name": "app", "attempt": 0, "created": 2, "started": 3}
             for number, name in enumerate(PROBED)]

@@ -1,4 +1,4 @@
-"""Plays that are recorded as several traces, and hand-written traces, for the tests of what is told of several."""
+"""Scripted nodes that are recorded as several traces, and handwritten traces, for the tests of joined traces."""
 
 import gzip
 import json
@@ -27,7 +27,7 @@ def restarting_play():
 
 
 class Folder:
-    """A folder with the traces of the restarting play, one each 20 s."""
+    """A folder with the traces of the restarting node, one each 20 s."""
 
     def __init__(self):
         into = Into(restarting_play())
@@ -64,7 +64,7 @@ def stamp(at):
     return time.strftime("%Y-%m-%dT%H-%M-%SZ", time.gmtime(at))
 
 
-# starts and exits of one container, in seconds behind 00:00:00Z
+# starts and exits of one container, in seconds after 00:00:00Z
 LIVES = [(0, 3700), (3705, 11000), (11010, 11420), (11430, None)]
 
 
@@ -95,8 +95,8 @@ def hourly(folder):
 
 
 def restarted_play(shift):
-    """A play that is met a little later: a container that is ready, one that exits while
-    nobody records, and one that begins to fail then."""
+    """A script that the recorder meets a little later: a container that is ready, one that exits while nobody records,
+    and one that begins to fail then."""
     probes = {"startupProbe": {"periodSeconds": 1}, "readinessProbe": {"periodSeconds": 3, "successThreshold": 3}}
     ready = {"told": 10 ** 6, "shown": {"restartCount": 0, "started": True, "ready": True}}
     made = [{"id": "a", "pod": "shop/a", "attempt": 0, "created": 2, "started": 3, **ready},

@@ -69,7 +69,7 @@ def number_of_jobs(text):
 
 
 def words_of(words):
-    # tools/test says its help, also where there is no Python
+    # tools/test prints its help, also where there is no Python
     parser = argparse.ArgumentParser(prog="tools/test", add_help=False, allow_abbrev=False,
                                      usage="tools/test [--jobs N] [--write | --without-program] [NAME ..]")
     parser.add_argument("-j", "--jobs", type=number_of_jobs, metavar="N",

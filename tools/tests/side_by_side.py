@@ -19,9 +19,9 @@ import cases
 import ending
 
 PR_SET_PDEATHSIG = 1
-# seconds: between two looks at how long tests take, and the most that one may take on a machine that does much else
+# seconds: between two checks of how long tests take, and the most that one may take on a machine with much other work
 LOOK, LONGEST_TEST = 1.0, 1500
-# what a test tells the run of, a line each
+# what a test reports to the run, a line each
 PASSED, FAILED, LEFT_OUT, DONE, EXITED = "passed", "failed", "left out", "done", "exited"
 
 
@@ -62,7 +62,7 @@ class Interrupts:
 
 
 class Teller(unittest.TestResult):
-    """Tells the run of each check, and of a test that raises."""
+    """Reports to the run each check, and a test that raises."""
 
     def __init__(self, pipe):
         super().__init__()
@@ -126,10 +126,10 @@ def perform(test, pipe, room):
 
 
 def keep(test, pipe, room, run):
-    """Has a process below this one run a test, and ends what that leaves; then this process ends. It does so too where
-    it is told to, or where the run is gone."""
+    """Has a process below this one run a test, and ends what that leaves; then this process ends. It also ends where a
+    signal asks it to, or where the run is gone."""
     try:
-        # an interrupt of a terminal comes to the run, which tells its keepers
+        # an interrupt of a terminal comes to the run, which passes it to its keepers
         os.setpgid(0, 0)
         ending.adopt_orphans()
         ctypes.CDLL(None).prctl(PR_SET_PDEATHSIG, signal.SIGTERM)
@@ -170,7 +170,7 @@ class Job:
         self.is_done, self.status, self.is_told = False, None, False
 
     def lines(self, data):
-        """The whole lines of what came, as they were told."""
+        """The whole lines of what came, in their order."""
         *lines, self.rest = (self.rest + data).split(b"\n")
         for line in lines:
             with contextlib.suppress(ValueError):
@@ -186,8 +186,8 @@ class Job:
 
 
 class Run:
-    """Tests that run so many at a time, and the counts of their checks. Each that fails is told as it does, and so is
-    one that takes longer than LONGEST_TEST, which ends it."""
+    """Tests that run so many at a time, and the counts of their checks. A test that fails is reported at once, and so
+    is one that takes longer than LONGEST_TEST, which ends it."""
 
     def __init__(self, room, most):
         self.room, self.most = room, most
@@ -229,7 +229,7 @@ class Run:
         signal.pthread_sigmask(signal.SIG_UNBLOCK, ending.INTERRUPTS)
 
     def hear(self, job):
-        """What a test tells; once nobody is left to tell anything it has ended."""
+        """What a test reports; once no process is left to report anything it has ended."""
         data = os.read(job.pipe, 1 << 16)
         for kind, more in job.lines(data):
             self.passed += kind == PASSED

@@ -1,5 +1,5 @@
-"""The tests of answers that the recorder reads: long ones, ones that do not end or end too early, those of a large
-node, and those of the runtime alone."""
+"""The tests of answers that the recorder reads: long answers, answers that do not end or end too early, answers of a
+large node, and answers of the runtime alone."""
 
 import json
 import os
@@ -53,7 +53,8 @@ def test_long_answers():
 
 
 def test_answers_without_their_end():
-    """An answer is read up to 32 MiB, in steady memory, which is said; and one that ends before its length is none."""
+    """An answer is read up to 32 MiB, in steady memory, which a line reports; an answer that ends before its length is
+    none."""
     if not has_openssl():
         return
     place = Place()
@@ -97,7 +98,7 @@ def test_a_large_node():
 
 
 def listed_in(trace):
-    """The listings of containers in a trace: what a tick says of each."""
+    """The listings of containers in a trace: what each tick has."""
     ticks = [json.loads(line) for line in trace.splitlines()]
     return [(tick["at"], pod["pod"], [(each["name"], each["attempt"], each["state"], each.get("exitCode"))
                                       for each in pod["containers"]])
@@ -105,7 +106,7 @@ def listed_in(trace):
 
 
 def test_the_runtime_alone():
-    """Where neither the kubelet nor the API server is asked, starts and exits are those of a whole recording."""
+    """Where neither the kubelet nor the API server is asked, starts and exits are the same as in a whole recording."""
     place = Place()
     path = tempfile.mkdtemp()
     for name in ("sh", "env", "python3", "cat", "dirname", "readlink", "uname", "awk"):

@@ -83,7 +83,7 @@ def python_with_pip():
 
 
 def test_the_package():
-    """Installed by pip it is an ordinary package with console scripts, which show what the tools say."""
+    """Installed by pip it is an ordinary package with console scripts, which print what the tools print."""
     python = python_with_pip()
     if python is None:
         print("left out: the package, since pip, setuptools or wheel is missing")
@@ -146,7 +146,7 @@ def test_record_takes_its_options():
 
 
 def test_import_takes_its_defaults():
-    """The importer applies some defaults itself: those of the specification."""
+    """The importer applies some defaults itself, and they are the defaults of the specification."""
     defaults = {option.names[0]: option.kind(option.default) if option.kind else option.default
                 for option in definition.COMMANDS["import"].options if option.default}
     expect("the defaults of import", defaults, {"--most": import_files.MOST, "--each": 3600,
@@ -154,7 +154,7 @@ def test_import_takes_its_defaults():
 
 
 def test_fleet_has_its_measures():
-    """The measures of the specification are those of the tool's table, and so is what --fail-on finds."""
+    """The measures of the specification are the measures of the tool's table, and so is what --fail-on finds."""
     expect("the measures of fleet", tuple(worst.MEASURES), definition.MEASURES)
     expect("what --fail-on finds", tuple(failing.FOUND), definition.KINDS)
 
@@ -298,7 +298,7 @@ def test_names_that_are_not_utf8():
 
 
 def test_words_of_the_program_are_only_shown():
-    """What the program says of a word is shown, and not followed by a terminal."""
+    """What the program prints of a word is shown, and a terminal does not obey it."""
     for words in (["run", "--a\x1b[31mb"], ["check", "--a\x1b[31mb"],
                   ["run", TRACE, "--fail-on", "evicted", "--\x9b31m"]):
         status, out, said = run([COMMAND, *words])
@@ -350,14 +350,14 @@ def test_command_fails_on():
 
 
 def test_no_room():
-    """Where what is kept for a tool has no place it is said where, and how it can be elsewhere."""
+    """If there is no room for a tool's own files, the fault names the folder, and how to choose another."""
     folder = tempfile.mkdtemp()
     with open(f"{folder}/full", "w", encoding="utf-8") as file:
         file.write("#!/bin/sh\n[ $# = 0 ] && cat >/dev/null\necho 'write failed' >&2\nexit 1\n")
     os.chmod(f"{folder}/full", 0o755)
     settings = {"KUBELET_REPLAY": f"{folder}/full", "TMPDIR": folder}
     expect_refused("story -f, without room", run([COMMAND, "story", "-f", TRACE], **settings), 1,
-                   f"no place in {folder}: it takes no more (TMPDIR names another folder)")
+                   f"can't keep files in {folder}: it takes no more (TMPDIR names another folder)")
     expect_refused("what-if, without room", run([f"{TOOLS}/what-if", "."], read(TRACE), **settings), 1,
                    f"{folder} takes no more (TMPDIR names another folder)")
     expect_refused("what-if, without a folder", run([f"{TOOLS}/what-if", "."], read(TRACE), TMPDIR=f"{folder}/none"), 1,

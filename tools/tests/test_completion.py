@@ -1,4 +1,4 @@
-"""The tests of completion by the shells themselves: the words that each hands to the command, and what it offers."""
+"""The tests of completion by the shells themselves: the words that each passes to the command, and what it offers."""
 
 import os
 import re

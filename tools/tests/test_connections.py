@@ -26,7 +26,7 @@ TOKEN = "Bearer of-the-test"
 
 
 class Kubelet(ThreadingHTTPServer):
-    """Stands in for a kubelet: it wants a token, and counts its connections and its answers. It has the certificate of
+    """A stand-in for a kubelet: it needs a token, and counts its connections and its answers. It has the certificate of
     a folder, or none."""
 
     daemon_threads = True
@@ -37,7 +37,7 @@ class Kubelet(ThreadingHTTPServer):
         # how often it was asked with each token, and for each path
         self.given, self.paths = Counter(), Counter()
         # the tokens that came, and the answers that are others than the recorded ones: {path: (status, body, bytes that
-        # its length has beside those of the body)}, or what is called with the handler
+        # its length has in addition to the body)}, or what is called with the handler
         self.came, self.others = [], {}
         self.port = self.server_address[1]
         self.url = f"http://127.0.0.1:{self.port}"
@@ -146,8 +146,8 @@ def has_openssl():
 
 
 def test_kubelet():
-    """All answers of a kubelet come by one connection, which is opened anew where it was closed, but the one that has
-    when it was started; only crictl is a command."""
+    """All answers of a kubelet come by one connection, which is opened again where it was closed, except the answer
+    with the moment of its start; only crictl is a command."""
     if not has_openssl():
         return
     place = Place()
@@ -167,7 +167,7 @@ def test_kubelet():
 
 
 def test_refusals():
-    """Why a kubelet gives no answer is said in one line."""
+    """One line has the reason why a kubelet gives no answer."""
     if not has_openssl():
         return
     place, wrong = Place(), "Bearer of-another"
@@ -195,8 +195,8 @@ def test_refusals():
 
 
 def test_no_token_unchecked():
-    """The token goes to no server whose certificate was not checked, unless the settings say so; what is to be set is
-    said in one line."""
+    """The token goes to no server whose certificate was not checked, unless the settings allow it; one line shows what
+    to set."""
     if not has_openssl():
         return
     place, another = Place("DNS:worker-3"), Place()
@@ -229,7 +229,7 @@ NOTHING = (404, b"404: Page Not Found")
 
 
 def test_check_of_rights():
-    """--check says of each path what right it wants, and whether the token may start commands."""
+    """--check shows for each path what right it needs, and whether the token may start commands."""
     if not has_openssl():
         return
     place = Place()
@@ -313,7 +313,7 @@ def test_other_settings():
 
 
 def test_a_token_that_changes():
-    """The file is read again where it has changed: no answer is wanted with the old token from then on."""
+    """The file is read again where it has changed: from then on no request has the old token."""
     if not has_openssl():
         return
     place = Place()
@@ -368,7 +368,7 @@ def until_refused(path):
 
 
 def test_no_proxy():
-    """Where kubectl's proxy does not start, kubectl is started for each answer, which is said."""
+    """Where kubectl's proxy does not start, kubectl is started for each answer, and a line reports that."""
     place = Place()
     os.makedirs(f"{place.folder}/bin")
     with open(f"{place.folder}/bin/kubectl", "w", encoding="utf-8") as file:

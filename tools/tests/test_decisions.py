@@ -1,5 +1,5 @@
-"""The tests of what the tools tell of the kubelet's own decisions: of whys/kubelet, in which it evicts one pod as the
-rules do, others where they do not, and refuses two. What `why` tells of them is kept next to that trace."""
+"""The tests of what the tools show of the kubelet's own decisions, by the trace whys/kubelet. There it evicts one pod
+as the rules do, others where they do not, and admits two not at all. What `why` prints is kept next to that trace."""
 
 import json
 import os
@@ -189,7 +189,7 @@ def test_messages():
 
 
 def test_no_decisions():
-    """A trace that does not tell what the kubelet did is told as before."""
+    """A trace that has nothing of the kubelet's decisions is shown as before."""
     folder = tempfile.mkdtemp()
     path = os.path.join(folder, "trace")
     with open(path, "w", encoding="utf-8") as file:
@@ -200,8 +200,8 @@ def test_no_decisions():
 
 
 def test_list_of_pods():
-    """Whom the kubelet evicted stands first in the list of all pods, also where the rules evict nobody; and seconds
-    without readiness count up to the end of the trace."""
+    """The pods that the kubelet evicted are first in the list of all pods, also where the rules evict nobody; and
+    seconds without readiness count up to the end of the trace."""
     calm = re.sub(r'"memory.available":\d+', '"memory.available":4294967296',
                   read(f"{HERE}/recordings/kubelet_evicts_extended/trace"))
     folder = tempfile.mkdtemp()

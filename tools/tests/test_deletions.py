@@ -1,4 +1,4 @@
-"""The tests of pods that are being deleted: when that is said, over a rotation, and what is told of it."""
+"""The tests of pods that are being deleted: when a trace has that, over a rotation, and what the tools show of it."""
 
 import json
 
@@ -19,7 +19,7 @@ load_tests = cases.loaded(__name__)
 
 RECORDED = f"{HERE}/recordings/deleted_extended"
 BEGIN = 1767225600
-# what an object says of its deletion, and since when it is asked for, in seconds after the begin of that year
+# what an object has of its deletion, and since when it is asked for, in seconds after the begin of that year
 MOMENTS = (
     ({"deletionTimestamp": "2026-01-01T00:00:30Z", "deletionGracePeriodSeconds": 30}, 0),
     ({"deletionTimestamp": "2026-01-01T00:00:30Z", "deletionGracePeriodSeconds": 0}, 30),
@@ -36,7 +36,8 @@ def test_moment_of_a_deletion():
 
 
 def test_deletion_over_a_border():
-    """A trace that follows says once more which pods are being deleted, in each of its first ticks, and of no other."""
+    """A trace that follows has once more which pods are being deleted, in each of its first ticks, and no other
+    pods."""
     standing = Standing()
     for line in read(f"{RECORDED}/trace").splitlines():
         standing.take(json.loads(line))
@@ -68,7 +69,7 @@ def test_version_2_says_none():
 
 
 def goes(deleted, exited, **more):
-    """A play of a pod that is told to go at a moment, whose container exited at one."""
+    """A script of a pod that is asked to go at a moment, whose container exited at one."""
     spec = {"containers": [{"name": "app"}], "restartPolicy": "Always"}
     return {"begin": BEGIN, "pods": {"shop/web": {"spec": spec, "deleted": deleted, "grace": 30, "until": 60, **more}},
             "containers": [{"id": "a0", "pod": "shop/web", "name": "app", "attempt": 0, "created": -9, "started": -9,
@@ -77,8 +78,8 @@ def goes(deleted, exited, **more):
 
 
 def test_when_it_goes():
-    """A pod of which nothing ran when it was told to go has gone then, though a list of pods says so later; one that
-    ran goes with its exit."""
+    """A pod of which nothing ran when it was asked to go has gone then, though a list of pods shows that later; one
+    that ran goes with its exit."""
     for name, play, wanted in (
         ("nothing ran", goes(21, 12.5), (21, 21)),
         ("it ran on", goes(21, 26.5), (26, 27)),

@@ -1,5 +1,5 @@
-"""The tests of what starts the recorder on nodes: its words are those of tools/record, and the token is where it is
-read. Nothing is started by a service manager."""
+"""The tests of what starts the recorder on nodes: its words are words of tools/record, and the token is where it is
+read. No service manager starts anything."""
 
 import contextlib
 import json
@@ -62,7 +62,7 @@ def manifest(name):
 
 
 def test_right_of_events():
-    """The right to list events stands apart, for the same account."""
+    """The right to list events is a role of its own, for the same account."""
     parts = manifest("rights-events.yaml")
     if parts is None:
         return
@@ -234,7 +234,7 @@ def test_entry_writes_through_no_link():
 
 def test_entry_gives_no_token_away():
     """Next to a kubelet with a certificate of its own the recorder shows what is to be set, and keeps the token; with
-    that certificate, or told to take any, it records."""
+    that certificate, or with the setting to accept any, it records."""
     if not has_openssl():
         return
     place, another = Place("DNS:worker-3"), Place()
@@ -265,7 +265,7 @@ def test_entry_gives_no_token_away():
     another.remove()
 
 
-# a client of a socket, which says for each line that it is given whether a server answers
+# a client of a socket, which prints for each line that it gets whether a server answers
 CLIENT = """
 import socket, sys
 for _ in sys.stdin:
@@ -359,7 +359,8 @@ def test_probe():
 
 
 def test_what_is_silent_for_long():
-    """A source that gives no answer is said, and again after five minutes of that, and that it answers again."""
+    """A line reports a source that gives no answer, and another one after five minutes of that, and one that it answers
+    again."""
     told, answers = [], {1000: "yes", 1700: "yes"}
 
     def ask(moment):
@@ -395,7 +396,7 @@ CONTROL = "Package: kubelet-replay\nVersion: 1.2.3\nArchitecture: amd64\nMaintai
 
 def test_image_name():
     """The runtime names the image as the manifest does, also where only a tag names it; its digest is printed, and its
-    date is that of the package."""
+    date is the package's."""
     if shutil.which("dpkg-deb") is None:
         return
     folder = tempfile.mkdtemp()

@@ -1,5 +1,5 @@
-"""The tests of pods that the node has ended: what a status says, when that stands, of `ended_extended`, over a
-rotation, and what waits for a list of pods."""
+"""The tests of pods that the node has ended: what a status has, at which moment, of `ended_extended`, over a rotation,
+and what waits for a list of pods."""
 
 import json
 
@@ -16,7 +16,7 @@ RECORDED = f"{HERE}/recordings/ended_extended"
 BEGIN = 1767225600
 SHUTDOWN = "Pod was terminated in response to imminent node shutdown."
 DEADLINE = "Pod was active on the node longer than the specified deadline"
-# what a status says: the kind of what was done, the word for it, its reason and what is kept of its message
+# what a status has: the kind of what was done, the word for it, its reason and what is kept of its message
 STATUSES = (
     ({"phase": "Failed", "reason": "DeadlineExceeded", "message": DEADLINE},
      ("ended", "DeadlineExceeded", "DeadlineExceeded", DEADLINE)),
@@ -51,15 +51,16 @@ def words_of(trace, word):
 
 
 def test_moments_of_ends():
-    """It is with the first exit that no start followed, though it was seen seconds later; where a container was
-    said to wait after its exit, or runs, with the look that saw it; where no exit needs a start, with the last one."""
+    """It is with the first exit that no start followed, though it was seen seconds later. Where a status had a
+    container as waiting after its exit, or it runs, it is with the poll that saw it. Where no exit needs a start, it is
+    with the last one."""
     expect("ended: when, by a play", words_of(read(f"{RECORDED}/trace"), "failed"), [
         ("shop/deadline", 5, "DeadlineExceeded"), ("shop/shut", 26, "Shutdown"), ("shop/once", 33, "DeadlineExceeded"),
         ("shop/loop", 34, "Other")])
 
 
 def test_end_over_a_border():
-    """A trace that follows says it once more, in each of its first ticks, and what the kubelet reported of it."""
+    """A trace that follows has it once more, in each of its first ticks, and what the kubelet reported of it."""
     standing = Standing()
     for line in read(f"{RECORDED}/trace").splitlines():
         standing.take(json.loads(line))
@@ -81,7 +82,7 @@ def calm_play(**life):
 
 
 def test_ticks_wait_for_a_list():
-    """A pod is said to be deleted from the first tick at its moment on, though it is listed so seconds later only."""
+    """A pod is deleted from the first tick at its moment on, though the list shows that only seconds later."""
     place = Into(calm_play(deleted=11, grace=30))
     status, trace, said = place.record("--extended", "--every", "2", "--for", "40")
     place.clean()

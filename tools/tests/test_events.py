@@ -1,5 +1,5 @@
-"""The tests of what Events of the API say of pods, in recordings with --events: which pods are asked for, what is kept
-of an Event, and where it stands."""
+"""The tests of what Events of the API report of pods, in recordings with --events: which pods are asked for, what is
+kept of an Event, and in which tick it is."""
 
 import json
 
@@ -71,7 +71,7 @@ def test_forms():
 
 
 def test_asking():
-    """Some seconds behind what has happened, at most once in ten, and few at once."""
+    """Some seconds after the happening, at most once in ten, and few at once."""
     asking = Asking(True)
     asking.want(["a"], 0)
     found = []
@@ -134,8 +134,8 @@ def test_events_that_do_not_come():
 
 
 def test_ready_of_the_node():
-    """Each tick says so while the node is not Ready, some seconds after the condition's own moment, which stands
-    there; and over a border."""
+    """Each tick has it while the node is not Ready, some seconds after the condition's own moment, which is there too;
+    and over a rotation."""
     ready = [{"at": -100, "status": "True", "reason": "KubeletReady"}, {"at": 12, "status": "Unknown",
              "reason": "NodeStatusUnknown"}, {"at": 31, "status": "True", "reason": "KubeletReady"}]
     place = Into({**play(), "ready": ready})

@@ -20,7 +20,7 @@ CASES = f"{TOP}/crates/case_runner/data/traces"
 # a trace that begins with the eviction of the trace before it, among them
 RECORDINGS = (f"{HERE}/recordings/*/trace", f"{TOP}/examples/recorded/*.trace", f"{HERE}/whys/*/trace",
               f"{HERE}/summaries/trace")
-# longer ones take the tools minutes; those of a family are alike
+# longer ones take the tools minutes; the traces of a family are alike
 MOST_BYTES = 1 << 18
 CUTS = 6
 
@@ -31,7 +31,7 @@ def text_of(path):
 
 
 def fault_of(text, report_text, name):
-    """What a tool raises of a trace with its report, by its name; None where all tell it."""
+    """The exception of a tool over a trace with its report, by the tool's name; None where all print it."""
     try:
         report = reports.read_report(report_text)
         ticks = why_ticks.Ticks(moments={eviction.at for eviction in report.evictions})

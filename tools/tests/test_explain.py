@@ -1,4 +1,4 @@
-"""The tests of tools/explain: of each text that the program refuses a field is found, and the whole answers of some."""
+"""The tests of tools/explain: it finds a field in each text that the program rejects, and the whole answers of some."""
 
 import glob
 import io
@@ -21,7 +21,7 @@ DATA = f"{TOP}/crates/case_runner/data"
 
 
 def refused_texts():
-    """The texts that the program's own tests have it refuse: a name, the text, what is said, whether it is read in the
+    """The texts that the program's own tests have it reject: a name, the text, the message, whether it is read in the
     extended format."""
     for path in sorted(glob.glob(f"{DATA}/traces/**/*.refusal", recursive=True)):
         trace = path.removesuffix("refusal") + "trace"
@@ -36,7 +36,7 @@ def refused_texts():
 
 
 def found_of(text, said, is_extended):
-    """What is found of a refused text, as the answer that is told."""
+    """What is found in a rejected text, as the answer that is printed."""
     line, number, _, manifest = verdict.REFUSED.fullmatch(said.removeprefix("status 2: ")).groups()
     given = verdict.Verdict(2, said, int(line), int(number), int(manifest) if manifest else None)
     found, shown = search.search(io.BytesIO(text), given, is_extended)
@@ -45,7 +45,7 @@ def found_of(text, said, is_extended):
 
 
 def test_refused_texts():
-    """A field is found of each, and each part of what is told fits on a terminal's line and has no control byte."""
+    """A field is found in each, and each part of the answer fits on a terminal's line and has no control byte."""
     nothing, strange, count = [], [], 0
     for name, text, said, is_extended in refused_texts():
         count += 1
@@ -61,7 +61,7 @@ def test_refused_texts():
 
 
 def test_explanations():
-    """Each folder has a trace, and what is told of it and in one line."""
+    """Each folder has a trace, and the answers about it, whole and in one line."""
     for name in sorted(os.listdir(EXPLAINED)):
         status, shown, said = run([f"{TOOLS}/explain"], read(f"{EXPLAINED}/{name}/trace"))
         expect(f"explain {name}", (status, said), (0, ""))
@@ -72,7 +72,7 @@ def test_explanations():
 
 
 def test_words_of_recordings():
-    """The fields that the extended format has of pods that are ended, spared or named, where the program refuses
+    """The fields that the extended format has of pods that are ended, exempt or named, where the program rejects
     one."""
     node = '{"kind":"node","version":3,"name":"n1"%s}\n'
     pod = '{"kind":"pod"%s,"pod":{"metadata":{"name":"a"},"spec":{"containers":[{"name":"c"}]}}}\n'
@@ -92,7 +92,7 @@ def test_words_of_recordings():
 
 
 def test_files():
-    """Of what can't be read the reason is said, of what is something else what it is."""
+    """Of a file that can't be read the reason is printed, of something else what it is."""
     folder = tempfile.mkdtemp()
     report = read(f"{TOP}/examples/liveness_kill.report")
     for name, text, wanted in (
@@ -118,7 +118,7 @@ def test_files():
 
 
 def test_fallback():
-    """Where no field is found, or the trace is another one by now, what the list of faults has is said."""
+    """Where no field is found, or the trace is another one by now, the answer is what the list of faults has."""
     folder = tempfile.mkdtemp()
     for text, said, wanted in (
         ('{"kind":"node","name":"n1"}\n', "line 1: 36 Config", "a field of the node line has another value"),
@@ -205,7 +205,7 @@ class CountingDecoder(json.JSONDecoder):
 
 
 def test_a_line_of_many_names():
-    """However many fields are told of a line, it is looked through once."""
+    """However many fields of a line are shown, it is searched once."""
     names, decoder, before_it = 20_000, CountingDecoder(), lines.DECODER
     lines.DECODER = decoder
     for text, said in (
@@ -223,7 +223,7 @@ def test_a_line_of_many_names():
 
 
 def test_names_of_other_bytes():
-    """A file whose name is not UTF-8 is read, and where it is not there that is said."""
+    """A file whose name is not UTF-8 is read, and where it is not there a line reports that."""
     folder = os.fsencode(tempfile.mkdtemp())
     shutil.copy(f"{TOP}/examples/first_tick.trace", folder + b"/\xff.trace")
     for words in ([], ["--line"]):

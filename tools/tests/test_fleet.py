@@ -1,4 +1,4 @@
-"""The tests of tools/fleet: its tables, what is kept, runs that end in the middle, what is refused; and Dask
+"""The tests of tools/fleet: its tables, what is kept, runs that end in the middle, what is rejected; and Dask
 distributed and pyarrow where they are there."""
 
 import glob
@@ -106,7 +106,7 @@ def test_fleet_tables():
 
 
 def check_reports(database, folder):
-    """The reports next to a database are those of the program."""
+    """The reports next to a database are the program's."""
     connection = sqlite3.connect(database)
     rows = connection.execute("SELECT path, report_file FROM traces WHERE status = 'replayed'").fetchall()
     connection.close()
@@ -116,7 +116,7 @@ def check_reports(database, folder):
 
 
 def test_fleet_copies():
-    """A trace with the bytes of another one is a row that says so, and counts nothing."""
+    """A trace with the bytes of another one is a row that shows that, and counts nothing."""
     folder = tempfile.mkdtemp()
     traces, database = f"{folder}/traces", f"{folder}/fleet.db"
     shutil.copytree(f"{KEPT}/traces/n5", f"{traces}/n5")
@@ -205,7 +205,7 @@ def test_fleet_begins_again():
 
 
 def hold(folder):
-    """From now on a run stands still in its eighth replay and those after it, until the file `hold` is gone."""
+    """From now on a run stops in its eighth replay and the ones after it, until the file `hold` is gone."""
     with open(f"{folder}/runs", "w", encoding="ascii"), open(f"{folder}/hold", "w", encoding="ascii"):
         pass
 
@@ -269,7 +269,7 @@ def test_fleet_failures():
     connection = sqlite3.connect(f"{folder}/fleet.db")
     rows = connection.execute("SELECT path, fault FROM traces WHERE status = 'failed'").fetchall()
     connection.close()
-    ended = "each process that had it in hand was ended"
+    ended = "each process that replayed it was ended"
     expect("fleet: why traces fail", [(os.path.basename(path), fault) for path, fault in rows],
            [("hour_1.trace", ended), ("hour_2.trace", ended), ("pipe.trace", "can't be read: it is no file")])
     os.remove(f"{folder}/traces/pipe.trace")
@@ -337,7 +337,7 @@ def test_fleet_refused():
 
 
 def refusal_of(what):
-    """What a call refuses, or None."""
+    """The message with which a call is rejected, or None."""
     try:
         what()
     except entry.Fault as fault:
@@ -465,8 +465,8 @@ def test_fleet_on_dask():
 
 
 def check_workers_that_end(words, cluster, folder):
-    """The database is that of one process, whether the worker had traces in hand or held answers that nobody fetched.
-    The scheduler ends last."""
+    """The database is the same as by one process, whether the worker had traces of its own or held answers that nobody
+    fetched. The scheduler ends last."""
     one = content(f"{folder}/one.db")
     for kept in range(1, 11):
         database = f"{folder}/dask_{kept}.db"
@@ -494,7 +494,7 @@ def begun(words):
 
 
 def end_worker_with_answers(started, cluster, runs):
-    """Ends it while the run that began stands still, and nothing is left that the workers could do."""
+    """Ends it while the run that began waits, and nothing is left that the workers could do."""
     started.send_signal(signal.SIGSTOP)
     counted = None
     while counted != os.path.getsize(runs):
@@ -518,7 +518,7 @@ def check_lost(words, end, folder, how):
 
 
 def test_generated_traces():
-    """The generator's traces are the same each time, and are refused or replayed as it means them."""
+    """The generator's traces are the same each time, and are rejected or replayed as it means them."""
     folder = tempfile.mkdtemp()
     run([f"{TOP}/bench/fleet", "traces", f"{folder}/traces", "40", "7"])
     expect("bench/fleet traces", [read(f"{folder}/traces/worker-{number:05}.trace") for number in (0, 39)],

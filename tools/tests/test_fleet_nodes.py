@@ -171,7 +171,7 @@ def test_pods_of_older_traces():
     newer = [None, None, (2, "EXITED", 4), (3, "RUNNING", 0), (3, "EXITED", 5)]
     for uid, wanted in (("uid-web", [(3, 1), (4, 1), (5, 1)]), ("uid-other", [(3, 1), (4, 2), (5, 1)])):
         with tempfile.TemporaryDirectory() as folder:
-            # the names of the files say nothing of their order
+            # the names of the files show nothing of their order
             for name, text in (("b", trace_of(1767225600, "uid-web", older)), ("a", trace_of(1767229200, uid, newer))):
                 with open(f"{folder}/{name}.trace", "w", encoding="utf-8") as file:
                     file.write(text)

@@ -1,4 +1,4 @@
-"""The tests of tools/story --follow: what is written into a folder is told as it comes, over the rotation of two
+"""The tests of tools/story --follow: it prints what is written into a folder as it comes, over the rotation of two
 traces, once, and not before it is written for good."""
 
 import contextlib
@@ -42,7 +42,7 @@ AGAIN = {**RUNS, "attempt": 1}
 
 
 class Followed:
-    """A folder into which lines are written, and what a story that follows it tells."""
+    """A folder into which lines are written, and what a story that follows it prints."""
 
     def __init__(self, *words):
         self.path, self.told = tempfile.mkdtemp(), queue.Queue()
@@ -74,7 +74,7 @@ class Followed:
             self.told.put(line.rstrip("\n"))
 
     def next(self, seconds=LONGEST):
-        """The next line that is told; None where none comes in this time, or once the story has ended."""
+        """The next line that is printed; None where none comes in this time, or once the story has ended."""
         until = time.monotonic() + seconds
         while time.monotonic() < until:
             has_ended = self.process.poll() is not None and not any(reader.is_alive() for reader in self.readers)
@@ -95,7 +95,7 @@ class Followed:
 
 
 def test_follow():
-    """Over the end of one trace and the begin of the next, which says once more what was so before."""
+    """Over the end of one trace and the begin of the next, which has once more what was so before."""
     with Followed() as followed:
         followed.write(f"{FIRST}.part", NODE, pod("web-7d-x"), pod("calm"), tick(0, RUNS), tick(10, RUNS))
         followed.start()

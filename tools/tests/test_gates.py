@@ -1,5 +1,5 @@
 """The tests of what the tools print of readiness gates and resources of a pod in a trace of version 3. The traces and
-their reports are by hand."""
+their reports are handwritten."""
 
 import glob
 import json
@@ -83,7 +83,7 @@ def test_why_it_is_not_ready():
 
 
 def test_when_it_was_not_ready():
-    """`why` has each time of a gate, and story each span of Ready next to those of ContainersReady."""
+    """`why` has each time of a gate, and story each span of Ready next to the spans of ContainersReady."""
     told = told_by("why", OPENED, "True 20", "web")
     places = [place for place, line in enumerate(told) if "readiness gate" in line]
     expect("why: the gates", [told[place:place + 2] for place in places], [
@@ -157,7 +157,7 @@ def test_gates_over_a_rotation():
 
 
 def test_greatest_delay():
-    """That of the kubelet's own field, in version 3 alone."""
+    """The greatest delay comes from the kubelet's own field in version 3 alone."""
     period = {"crashLoopBackOff": {"maxContainerRestartPeriod": "1m"}}
     for more, wanted in (({"version": 3, **period}, 60), ({"version": 2, **period}, 300), ({"version": 3}, 300),
                          ({"version": 3, "crashLoopBackOff": {}}, 300), ({"version": 3, "maxRestartDelay": 20}, 20)):

@@ -55,7 +55,8 @@ def listing(cluster):
 
 
 def test_odd_listings():
-    """What a listing has that is no trace of that node is left out and said, and the traces next to it are copied."""
+    """What a listing has that is no trace of that node is left out and reported, and the traces next to it are
+    copied."""
     with Folder() as folder, Cluster(folder) as cluster:
         whole = listing(cluster)
         for line in ODD:
@@ -88,13 +89,13 @@ def test_parts_without_a_moment():
             cluster.put(f"recorder-a/{PART}", cluster.part + f'{{"kind":"tick",{tick}}}\n')
             status, told, said = cluster.fetch("n1")
             expect(f"a part with a moment that is none, {name}", (status, told.split(" into")[0], said), (
-                1, "n1: 4 traces copied", f"fetch: n1: {PART} ends with a tick that is none\n"))
+                1, "n1: 4 traces copied", f"fetch: n1: {PART} ends with an invalid tick line\n"))
             expect(f"a part with a moment that is none, {name}: what is left", len(cluster.here()), 4)
             shutil.rmtree(f"{cluster.path}/here")
 
 
 def test_more_than_there_is_room_for():
-    """A node that sends without end is cut off, takes no memory, and leaves the traces of others."""
+    """A node that sends without end is cut off, needs no more memory, and leaves the traces of others."""
     with Folder() as folder, Cluster(folder) as cluster:
         cluster.list([*PODS[:1], ("n9", "recorder-z", "Running")])
         name = "n9.2026-01-01T00-00-00Z.trace.gz"
@@ -170,11 +171,11 @@ def test_folders_of_others():
                        f"{here} belongs to another user (65534)")
 
 
-# --- what commands say ---
+# --- what commands print ---
 
 
 def test_escapes_of_commands():
-    """What crictl and kubectl say on standard error is shown, and does nothing to a terminal."""
+    """What crictl and kubectl print on standard error is shown, and does nothing to a terminal."""
     with Folder() as folder, Cluster(folder) as cluster:
         os.mkdir(f"{cluster.path}/bin")
         for name in ("crictl", "kubectl"):

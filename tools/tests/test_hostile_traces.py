@@ -100,7 +100,7 @@ def test_traces_out_of_range():
             found = connection.execute("SELECT first_moment, last_moment FROM nodes WHERE node = 'n1'").fetchall()
             moments = connection.execute("SELECT at FROM decisions").fetchall()
             connection.close()
-            # all up to the moment that a trace says it follows another one to is told by that one
+            # the earlier trace shows all up to the moment at which the next one follows it
             told = [] if at == LATER else [(20,), (20,)]
             expect(f"fleet with a moment that is {name}: the span", (
                 all(10 <= first <= last == 30 for first, last in found), moments), (True, told))
@@ -111,7 +111,7 @@ def test_traces_out_of_range():
 
 
 def test_values_of_no_kind():
-    """A value of another kind than the formats have is told as the line's fault; a fault of the tools' own is not."""
+    """A value of another kind than the formats have is shown as the line's fault; a fault of the tools' own is not."""
     trace, report = (read(f"{TOP}/examples/liveness_kill.{kind}") for kind in ("trace", "report"))
     with Made() as made:
         for was, odd in (('"pod":"shop/web-0"', '"pod":["shop/web-0"]'), ('"name":"web"', '"name":["web"]'),
@@ -139,7 +139,7 @@ def test_values_of_no_kind():
 
 
 def test_a_trace_that_speaks_for_another_node():
-    """Up to when a trace lasted says one of its own node alone."""
+    """A trace gives the end of an earlier trace of its own node alone."""
     name = "n1.2026-01-01T00-00-00Z.trace"
     plain = hostile_trace(0, follows={"x": 1})
     evil = hostile_trace(0, follows={"trace": name, "until": 10 ** 9, "at": 10 ** 9}).replace('"n1"', '"evil"', 1)
@@ -268,7 +268,7 @@ def text_of(pods):
 
 
 def test_completion_runs_nothing():
-    """Completion hands out the names that the formats take, and no other."""
+    """Completion offers the names that the formats take, and no other."""
     names = ("web$(touch${IFS}/tmp/x)", "web`id`", "web;id", "web\tid", "-web", "we b", "web\n", "Web", "plain", 5,
              ["x"])
     with Made() as made:

@@ -1,4 +1,4 @@
-"""The tests of tools/import: lines of a kubelet from 1.21 on and of runtimes, written by hand after their sources, in
+"""The tests of tools/import: lines of a kubelet from 1.21 on and of runtimes, written manually after their sources, in
 each form in which a journal is kept; manifests; and what is no journal. Holes and clocks are in test_import_gaps.py,
 and what a real kubelet's log comes to is in test_import_real.py."""
 
@@ -32,7 +32,7 @@ def imported(*words, given="", pods=f"{FOLDER}/pods.yaml"):
 
 
 def lines_of(text):
-    """The lines of a log of klog's text: each with its moment and what stands behind its header."""
+    """The lines of a log of klog's text: each with its moment and the text after its header."""
     for line in text.splitlines():
         level, month, day, clock, fraction, process, place = (found := HEADER.match(line)).groups()
         second = calendar.timegm(time.strptime(f"{YEAR}-{month}-{day} {clock}", "%Y-%m-%d %H:%M:%S"))
@@ -111,8 +111,8 @@ def test_import_of_keyed_lines():
 
 
 def test_import_of_failures_that_come_late():
-    """On a busy node a probe's results come late: where a line says that the failures led to a kill, none that has no
-    line was a success between them, though a period passed without one; and the rule kills by them too."""
+    """On a busy node a probe's results come late: where a line reports that the failures led to a kill, none that has
+    no line was a success between them, though a period passed without one; and the rule kills by them too."""
     lines = read(f"{FOLDER}/keyed.log").splitlines(keepends=True)
     [first] = [each for each in lines if each.startswith("I0301 10:00:30.0") and "Liveness" in each]
     early = [first.replace("10:00:30.0", "10:00:23.5") if each == first else each for each in lines]
@@ -156,7 +156,7 @@ def test_import_forms():
 
 
 def test_import_into():
-    """Traces one behind the other have what the one trace has, each as the program takes it; the folder is made."""
+    """Traces one after the other have what the one trace has, each as the program takes it; the folder is made."""
     folder = tempfile.mkdtemp()
     status, out, _ = imported("--journal", f"{FOLDER}/keyed.log", "--into", f"{folder}/into", "--each", "1m")
     names = sorted(os.listdir(f"{folder}/into"))
@@ -228,7 +228,7 @@ def pod_lines(trace):
 
 
 def test_import_of_owners():
-    """A pod without a manifest has that of its owner's template, by its name."""
+    """A pod without a manifest has the manifest of its owner's template, by its name."""
     text = "".join(line for line in read(f"{FOLDER}/keyed.log").splitlines(keepends=True) if "shop/hog" not in line)
     folder = tempfile.mkdtemp()
     for name, owner in OWNERS.items():
@@ -341,7 +341,7 @@ def test_import_of_what_events_say():
 
 
 def test_import_of_a_ranking():
-    """The pods in the order in which they were to be evicted, and for what, are said of the one that was."""
+    """The pods in the order in which they were to be evicted, and for what, are with the pod that was evicted."""
     text = read(f"{FOLDER}/keyed.log")
     names = [f"shop/p-{number}" for number in range(12)]
     many = text.replace('"shop/hog","shop/web"', ",".join(f'"{name}"' for name in ["shop/hog", *names]))
@@ -459,7 +459,7 @@ def test_import_of_hostile_lines():
 
 
 def test_import_of_more_than_a_line_takes():
-    """What is said of all pods in one second stands in the ticks behind it, where one would be too long a line."""
+    """What lines report of all pods in one second is in the ticks after it, where one line would be too long."""
     pods = [f"shop/{'p' * 50}-{number}" for number in range(250)]
     head = "I0301 10:00:{}.000000    2211 kubelet.go:1] "
     names = ",".join(f'"{pod}"' for pod in pods)
@@ -482,7 +482,7 @@ def test_import_of_more_than_a_line_takes():
 # --- what a cluster answers ---
 
 KUBECTL = """#!/bin/sh
-# stands in for kubectl, and answers as an API server of 1.30 that hands on what a kubelet has
+# a stand-in for kubectl, which answers as an API server of 1.30 that passes on what a kubelet has
 case "$*" in
 */proxy/logs/*query=kubelet*) [ -s "$ANSWERS/log" ] || { echo 'Error from server (NotFound): 404' >&2; exit 1; }
     cat "$ANSWERS/log" ;;
@@ -502,7 +502,8 @@ def precise(text):
 
 
 def test_import_of_a_cluster():
-    """A node by its name: its log, pods and events are asked for; where there is no log it says what to run there."""
+    """A node by its name: the import asks for its log, pods and events; where there is no log a line names what to run
+    there."""
     folder = tempfile.mkdtemp()
     for name, text in (("kubectl", KUBECTL), ("log", precise(read(f"{FOLDER}/keyed.log"))), ("events", '{"items":[]}')):
         with open(f"{folder}/{name}", "w", encoding="utf-8") as file:

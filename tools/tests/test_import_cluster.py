@@ -104,7 +104,8 @@ def test_import_of_a_node_and_its_runtime():
 
 
 def test_import_of_a_node_that_is_slow():
-    """What is waited for is said within five seconds; what does not come within --timeout is not waited for."""
+    """What the import waits for is reported within five seconds; it does not wait for what does not come within
+    --timeout."""
     answers = Answers(**logs())
     answers.put("events", "#!/bin/sh\nexec sleep 60\n", True)
     begun = time.monotonic()

@@ -40,7 +40,7 @@ PRINTED = {
     SUCCESS: f"eviction manager: pod {HOG} is evicted successfully",
     WAITING: f"eviction manager: pods {HOG} evicted, waiting for pod to be cleaned up",
     "failed": f"eviction manager: pod {HOG} failed to evict timeout waiting to kill pod", "event": KEYED["event"]}
-# what a kubelet says of an eviction whose kill takes it 7 s
+# what a kubelet logs of an eviction whose kill takes it 7 s
 LATE = ((60.0, RECLAIMS), (60.02, RANKED), (60.03, KILLING), (65.9, EXITED), (67.5, SUCCESS), (68.0, WAITING))
 
 
@@ -77,7 +77,7 @@ def without(lines, *left_out):
 
 
 def test_import_of_an_eviction_that_is_told_late():
-    """It stands where the round's ranking is, with `failed`, and the exit after it; so in both forms."""
+    """It is at the round's ranking, with `failed`, and the exit after it; so in both forms."""
     for name, form in (("keys", KEYED), ("sentences", PRINTED)):
         trace, _ = expect_eviction(f"import of an eviction that is told late, {name}",
                                    with_lines(*LATE, form=form), (60, LOW))
@@ -90,7 +90,7 @@ def test_import_of_an_eviction_that_is_told_late():
 
 
 def test_import_of_an_eviction_that_is_told_very_late():
-    """What is more than ten minutes behind has the moment of the decision, in the first tick that can say it."""
+    """What is more than ten minutes before has the moment of the decision, in the first tick that can have it."""
     looks = '"SyncLoop (probe)" probe="readiness" status="ready" pod="shop/web"'
     late = without(LATE, SUCCESS, WAITING)
     for until, is_late in ((600.0, False), (900.0, True)):
@@ -138,8 +138,8 @@ def test_import_of_an_eviction_of_another_round():
 
 
 def test_import_of_an_eviction_by_a_limit_of_its_own():
-    """No ranking has the pod: the Event tells the decision, else the first order to stop a container; else the exit
-    that it led to, and else the line itself."""
+    """No ranking has the pod: the Event has the decision, else the first order to stop a container; else the exit that
+    it led to, and else the line itself."""
     limit = [*without(LATE, RECLAIMS, RANKED)]
     event = KEYED["event"].replace(f"{WHOLE} ", LIMIT)
     expect_eviction("import of an eviction by a limit of its own", with_lines(*limit), (60, None))
@@ -154,7 +154,8 @@ def test_import_of_an_eviction_by_a_limit_of_its_own():
 
 
 def test_import_of_an_eviction_that_an_event_alone_tells():
-    """A log that ends before the line that says it; a pod that was not admitted has the same reason, and ran never."""
+    """A log that ends before the line with the reason; a pod that was not admitted has the same reason, and never
+    ran."""
     short = without(LATE, SUCCESS, WAITING)
     expect_eviction("import of an eviction that an Event alone tells", with_lines(
         *short[:2], (60.021, "event"), *short[2:]), (60, WHOLE))
@@ -164,7 +165,7 @@ def test_import_of_an_eviction_that_an_event_alone_tells():
 
 
 def test_import_of_the_message_of_an_eviction():
-    """The Event of the pod itself has it, and not that of one before under its name; so has the pod's status."""
+    """The Event of the pod itself has it, and not the Event of one before under its name; so has the pod's status."""
     again = (("68.0", WAITING), ("69.0", '"SyncLoop REMOVE" source="api" pods=["shop/hog"]'))
     pod = {"kind": "Pod", "metadata": {"name": "hog", "namespace": "shop",
                                        "uid": "22222222-2222-2222-2222-222222222222"},

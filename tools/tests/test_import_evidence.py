@@ -75,7 +75,7 @@ def rows(trace):
 
 def test_import_of_events_alone():
     """Starts, waits and an eviction; of starts that are alike the first and the last one, with its number. What can't
-    be known is said, and the node line says what the trace is made of."""
+    be known is reported, and the node line has what the trace is made of."""
     path = made(json.dumps({"items": EVENTS}))
     status_of, trace, said = imported("--node", "worker-3", "--events", path, pods=None)
     node = json.loads(trace.splitlines()[0])
@@ -95,7 +95,7 @@ def test_import_of_events_alone():
 
 def test_import_of_events_waits_for_nobody():
     """Standard input is read only where it is named: it may be a pipe that stays open, or the input of what runs the
-    import, of which nothing is taken. That something waits there is said."""
+    import, of which nothing is taken. A line reports that something waits there."""
     path = made(json.dumps({"items": EVENTS}))
     words = [IMPORT, "--node", "worker-3", "--events", path]
     with subprocess.Popen(words, stdin=subprocess.PIPE, stdout=subprocess.PIPE, stderr=subprocess.PIPE) as process:
@@ -115,8 +115,8 @@ def test_import_of_events_waits_for_nobody():
 
 
 def test_import_of_an_audit_log_alone():
-    """Each status that the kubelet sent has starts and exits, with codes and their own moments; of other nodes, and of
-    requests that were refused, nothing is told."""
+    """Each status that the kubelet sent has starts and exits, with codes and their own moments; nothing is shown of
+    other nodes, and of requests that were rejected."""
     path = made("".join(json.dumps(each) + "\n" for each in AUDIT))
     status_of, trace, said = imported("--node", "worker-3", "--audit", path, pods=None)
     node = json.loads(trace.splitlines()[0])

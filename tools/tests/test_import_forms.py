@@ -1,5 +1,5 @@
 """The tests of the forms of lines that an import reads, as kubelets from 1.21 on and runtimes write them, of what they
-say at each verbosity, and of what looks so and is a container's own. All are written after the sources, from
+contain at each verbosity, and of what looks so and is a container's own. All are written after the sources, from
 knowledge."""
 
 import base64
@@ -23,7 +23,7 @@ def line(moment, said):
 
 
 def added(text, *lines):
-    """A log with more lines, each as its moment and what it says."""
+    """A log with more lines, each as its moment and its text."""
     made = text.splitlines(keepends=True) + [line(*each) for each in lines]
     return "".join(sorted(made, key=lambda each: each[1:20]))
 
@@ -94,7 +94,7 @@ def test_import_of_forms_by_version():
         expect(f"import of {name}", (status, trace), (0, wanted))
 
 
-# --- what lines say at -v=3 and -v=4 ---
+# --- what lines have at -v=3 and -v=4 ---
 
 
 PAIR = {"kind": "Pod", "metadata": {"name": "pair", "namespace": "shop", "uid": "44444444"},
@@ -191,8 +191,8 @@ def test_import_of_statuses_by_version():
 
 
 def test_import_of_evictions_by_version():
-    """From -v=3 on a line of its own shows that an eviction begins, with the whole message; whom a kubelet does not
-    admit is told with the conditions, in each form."""
+    """From -v=3 on a line of its own shows that an eviction begins, with the whole message; a pod that a kubelet does
+    not admit is shown with the conditions, in each form."""
     message = "The node was low on resource: memory. Threshold quantity: 2Gi, available: 1Gi."
     begins = f'"Evicting pod" pod="shop/hog" podUID="{UIDS["hog"]}" message="{message} "'
     text = with_lines((60.02, begins), *without(LATE, "attempting to reclaim", "pods ranked for eviction"))
@@ -215,7 +215,7 @@ def refusals_in(trace):
 
 
 def test_import_of_a_pod_that_is_deleted_by_force():
-    """It comes again at once, and no look tells of its exit: the end of the kill does, from -v=3 on, in both forms."""
+    """It comes again at once, and no poll shows its exit: the end of the kill does, from -v=3 on, in both forms."""
     keyed = f'"Container exited normally" pod="shop/hog" podUID="{UIDS["hog"]}" containerName="main" containerID=' \
             f'"containerd://{HOG_ID}a0"'
     for name, said in (("keys", keyed), ("sentences", f'Container "containerd://{HOG_ID}a0" exited normally')):
@@ -252,7 +252,7 @@ def test_import_of_a_sidecar():
 
 
 def of_containerd(form):
-    """A container that crashes and is stopped, as a containerd up to 1.7 says it, of which no line has an exit."""
+    """A container that crashes and is stopped, as a containerd up to 1.7 logs it, of which no line has an exit."""
     named = {"structs": ("&PodSandboxMetadata{Name:web,Uid:%s,Namespace:shop,Attempt:0,}",
                          "&ContainerMetadata{Name:app,Attempt:%s,}"),
              "texts": ('name:"web"  uid:"%s" namespace:"shop"', 'name:"app"  attempt:%s')}[form]
@@ -359,7 +359,7 @@ def test_import_of_a_deletion_of_what_had_ended():
         each["pod"]["metadata"]["name"] for each in pod_lines(trace)], ["web", "hog"])
 
 
-# --- what a cluster says ---
+# --- what a cluster has ---
 
 
 def test_import_of_events_of_other_times_and_nodes():

@@ -1,5 +1,5 @@
 """The tests of what tools/import makes of a journal that lacks lines, of clocks that jump, and of the rounds of the
-eviction manager: where a trace ends, and what is told of the time between."""
+eviction manager: where a trace ends, and what is shown of the time between."""
 
 import gzip
 import json
@@ -42,7 +42,7 @@ def test_import_of_a_kubelet_that_is_started_anew():
 
 
 def traces_of(given, *words):
-    """The lines of each trace that is written into a folder, and what is said."""
+    """The lines of each trace that is written into a folder, and the messages."""
     with tempfile.TemporaryDirectory() as folder:
         status, _, said = imported("--into", folder, *words, given=given)
         expect("import --into of a journal with a gap", status, 0)
@@ -64,7 +64,7 @@ def attempts_of(tick):
 
 
 def test_import_of_a_clock_that_went_back():
-    """The trace ends there, and the next one has the moments that the clock says from there on; what ran goes on. In a
+    """The trace ends there, and the next one has the moments that the clock shows from there on; what ran goes on. In a
     trace alone they go on. The first tick after it is marked in both."""
     text = read(f"{FOLDER}/keyed.log")
     at = text.index("I0301 10:00:54")
@@ -166,8 +166,8 @@ def as_export(made):
 
 
 def test_import_of_a_journal_with_a_hole():
-    """Numbers that are missing in the journal of all programs end a trace; in that of some they are missing all along,
-    which tells nothing."""
+    """Numbers that are missing in the journal of all programs end a trace; in the journal of some they are missing all
+    along, which shows nothing."""
     text, wanted = read(f"{FOLDER}/keyed.log"), read(f"{FOLDER}/keyed.trace")
     hole = "I0301 10:01:20.000"
     for name, form, made in (("json", as_lines, lambda made: made), ("export", as_export, lambda made: made),
@@ -208,8 +208,8 @@ def gap_in(trace):
 
 
 def test_import_of_the_kubelets_journal_with_a_hole():
-    """A kubelet that tells of its rounds and shows nothing for a minute, or whose container starts again without a line
-    of its exit: the trace ends there. Below -v=3 a kubelet may be silent for long."""
+    """A kubelet that logs its rounds and shows nothing for a minute, or whose container starts again without a line of
+    its exit: the trace ends there. Below -v=3 a kubelet may be silent for long."""
     text = read(f"{FOLDER}/keyed.log")
     rounds = [f'I0301 10:{minute:02}:{second}0.500000    2211 eviction_manager.go:2] "Eviction manager: synchronize '
               'housekeeping"\n' for minute in (0, 1) for second in range(6)]
@@ -281,8 +281,8 @@ def test_import_of_rounds():
 
 
 def test_import_of_a_clock_that_went_forward():
-    """By the time since the node's start that journald has for each line; where the node only said nothing it has
-    not."""
+    """By the time since the node's start that journald has for each line; where the node was only silent the clock did
+    not jump."""
     text = read(f"{FOLDER}/keyed.log")
     made, quiet = [], []
     for kept, leap in ((made, 300), (quiet, 0)):

@@ -110,7 +110,8 @@ def test_import_of_characters_that_are_none():
 
 
 def test_import_of_what_does_not_end():
-    """A pipe that never ends is read up to --most, which is said; a file that gzip cut up to where it is cut."""
+    """A pipe that never ends is read up to --most, and a line reports that; a file that gzip cut is read up to the
+    cut."""
     text = read(f"{FOLDER}/keyed.log")
     endless = subprocess.Popen(["yes", "I0301 10:02:00.000000    2211 a.go:1] \"SyncLoop (housekeeping)\""],
                                stdout=subprocess.PIPE)

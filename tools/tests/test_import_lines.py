@@ -1,5 +1,5 @@
-"""The tests of how the importer reads lines in which klog's header is behind what journald or a runtime has of
-them: next to a reading of the same text line by line."""
+"""The tests of how the importer reads lines in which klog's header follows what journald or a runtime has of them,
+compared with a reading of the same text line by line."""
 
 import io
 import random
@@ -73,7 +73,7 @@ PRINTED = re.compile(rb"(\d{4}-\d\d-\d\dT\d\d:\d\d:\d\d(?:[.,]\d+)?(?:Z|[+-]\d\d
 
 
 def printed_line(text):
-    """A line of `journalctl -o short-iso`: its moment, what it says, and its unit, process and node."""
+    """A line of `journalctl -o short-iso`: its moment, its text, and its unit, process and node."""
     found = PRINTED.match(text)
     moment = None if found is None else moments.moment_of_iso(found[1].decode())
     if moment is None:

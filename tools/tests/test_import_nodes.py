@@ -1,5 +1,5 @@
-"""The tests of what a kubelet says at -v=0 of hooks, of volumes and of the node itself: that it is not Ready, that its
-containers' states can't be read, that it shuts down. The sentences of 1.20 are as they were in a log, but for what such
+"""The tests of what a kubelet logs at -v=0 of hooks, of volumes and of the node itself: that it is not Ready, that its
+containers' states can't be read, that it shuts down. The sentences of 1.20 are as they were in a log, except what such
 a node did not do; all others are from knowledge."""
 
 import json
@@ -18,7 +18,7 @@ HOOK = 'Exec lifecycle hook ([sh -c exit 1]) for Container \\"app\\" in Pod \\"w
 
 
 def said_in(trace, pod="shop/web"):
-    """What is said of a pod: each reason with its second and its container."""
+    """What the lines have of a pod: each reason with its second and its container."""
     return [(each["at"] - BEGUN, each["reason"], each.get("container")) for tick in map(json.loads, trace.splitlines())
             for entry in tick.get("pods") or [] if entry["pod"] == pod for each in entry.get("said") or ()]
 
@@ -41,8 +41,8 @@ def test_import_of_a_hook_that_fails():
 
 
 def test_import_of_volumes():
-    """A volume that can't be mounted is said by lines of -v=0 as the Event says it: of a pod's uid, and once the
-    kubelet has waited for two minutes of its name; and once where the Event is there too."""
+    """Lines of -v=0 report a volume that can't be mounted as the Event does: by a pod's uid, and once the kubelet has
+    waited for two minutes by its name; and once where the Event is there too."""
     text = read(f"{FOLDER}/keyed.log")
     of_volume = f'\\"kubernetes.io/secret/{UID}-t\\"'
     operation = f'Operation for "{{volumeName:kubernetes.io/secret/{UID}-t podName:{UID} nodeName:}}" failed. No ' \
@@ -88,8 +88,8 @@ PLEG = "PLEG is not healthy: pleg was last seen active 3m5s ago; threshold is 3m
 
 
 def test_import_of_a_node_that_is_not_ready():
-    """A kubelet that does nothing for pods says so each five seconds; that it goes on shows by its silence. A condition
-    has its own lines. What a kubelet says while it starts is no fault of the node."""
+    """A kubelet that does nothing for pods logs that each five seconds; that it goes on shows by its silence. A
+    condition has its own lines. What a kubelet logs while it starts is no fault of the node."""
     text = read(f"{FOLDER}/keyed.log")
     for form in SKIPPED:
         for said, word in ((PLEG, "PLEGNotHealthy"), ("container runtime is down", "ContainerRuntimeDown")):

@@ -44,8 +44,8 @@ def with_cursors(text, begin=0x1000, shift=0):
 
 
 def test_import_of_overlapping_journals():
-    """The trace is that of the whole log, whatever the forms and the order, and it is said how many messages are in
-    both."""
+    """The trace is the same as from the whole log, whatever the forms and the order, and a line reports how many
+    messages are in both."""
     text, wanted = read(f"{FOLDER}/keyed.log"), read(f"{FOLDER}/keyed.trace")
     first, second = parts(text)
     records_of = with_cursors(text)
@@ -81,7 +81,7 @@ def test_import_of_lines_that_are_the_same_in_one_journal():
 
 
 def test_import_of_journals_that_contradict_each_other():
-    """A message that one of two lacks, of a time that both have, is taken, and told in one line."""
+    """A message that one of two lacks, of a time that both have, is taken, and one line reports that."""
     text, wanted = read(f"{FOLDER}/keyed.log"), read(f"{FOLDER}/keyed.trace")
     first, second = parts(text)
     lacking = "".join(line for line in second.splitlines(keepends=True) if "10:00:40.04" not in line)

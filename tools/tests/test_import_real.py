@@ -1,5 +1,5 @@
-"""The tests of what tools/import makes of a real kubelet's log, next to what that kubelet did. The log is that of a run
-of 305 s at -v=4, cut to a verbosity; docs/import.md has the counts."""
+"""The tests of what tools/import makes of a real kubelet's log, compared with what that kubelet did. The log comes from
+a run of 305 s at -v=4, cut to a verbosity; docs/import.md has the counts."""
 
 import os
 import tempfile
@@ -18,9 +18,9 @@ PAGE = f"{TOP}/docs/import.md"
 LEVELS = (2, 4)
 # each of these is in the trace within two seconds, of so many of a hundred
 WANTED = {2: {"starts": 95, from_log.ANY_CODE: 90, "kills by a liveness probe": 98, "ready": 95, "unready": 95,
-              "evictions told as a fact": 100},
+              "evictions shown as a fact": 100},
           4: {"starts": 99, from_log.ANY_CODE: 98, "exits with their codes": 96, "kills by a liveness probe": 98,
-              "ready": 98, "unready": 95, "evictions told as a fact": 100}}
+              "ready": 98, "unready": 95, "evictions shown as a fact": 100}}
 
 
 def test_import_of_a_real_log():
@@ -46,7 +46,7 @@ def test_import_of_a_real_log():
 
 
 def test_tools_over_an_imported_trace():
-    """Each tool takes it; of an eviction the rules have nothing to say, since no journal has what pods use."""
+    """Each tool takes it; the rules can't judge an eviction, since no journal has what pods use."""
     with tempfile.TemporaryDirectory() as folder:
         log = from_log.at_level(import_counts.read_lzma(f"{RECORDING}/kubelet.log.xz"), 2)
         status, trace, _ = run([f"{TOOLS}/import", "--pods", f"{RECORDING}/pods.json", "--year", "2026"], log)

@@ -16,8 +16,8 @@ NO_COMMAND = "failed to create containerd task: exec: /bin/serve: no such file o
 
 
 def test_import_of_a_container_that_never_runs():
-    """Its sandbox starts in the look that finds its first exit, or in one before: it is told as a container that waits,
-    with each of its exits, and never as one that runs."""
+    """Its sandbox starts in the poll that finds its first exit, or in one before: it is shown as a container that
+    waits, with each of its exits, and never as one that runs."""
     for name, sandbox_at in (("in one look", 2.201), ("in two", 1.1)):
         journal = Journal().loop(0, "ADD").wait(2.0, "app", "RunContainerError", NO_COMMAND)
         journal.code(2.1, "1", 128).look(2.2, "Died", "1").look(sandbox_at, "Started", "5")
@@ -107,7 +107,7 @@ def running(is_printed=True, **spec):
 
 
 def test_import_of_pods_that_the_node_ended():
-    """By a deadline, to make room, as the node shuts down: with what the kubelet says, at the moment at which it began
+    """By a deadline, to make room, as the node shuts down: with what the kubelet logs, at the moment at which it began
     to stop the containers."""
     cases_of = []
     journal, pods = running()
@@ -259,7 +259,7 @@ def test_import_of_pods_that_are_forgotten():
 
 
 def test_import_of_names_that_come_late():
-    """Of a pod without a manifest: a name that lines have only after the pod's own is that of the container which had
+    """Of a pod without a manifest: a name that lines have only after the pod's own belongs to the container that had
     none by then."""
     journal = Journal(True).loop(0, "ADD").look(1, "Started", "a").look(1.001, "Started", "5")
     for at in range(60, 1500, 60):

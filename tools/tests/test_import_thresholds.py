@@ -1,6 +1,6 @@
-"""The tests of the thresholds that tools/import reads out of a journal: what a kubelet says as it starts, by its flags
-and in its rounds, in both forms; and the conditions that the rules make of a real kubelet's log, next to those that its
-rounds told."""
+"""The tests of the thresholds that tools/import reads from a journal: what a kubelet logs as it starts, by its flags
+and in its rounds, in both forms; and the conditions that the rules make of a real kubelet's log, next to the conditions
+that its rounds showed."""
 
 import calendar
 import gzip
@@ -34,7 +34,7 @@ PERIOD = "evictionPressureTransitionPeriod"
 
 
 def line(moment, said, process=2211):
-    """A line of a kubelet's log, so many seconds behind ten o'clock."""
+    """A line of a kubelet's log, so many seconds after ten o'clock."""
     stamp = time.strftime("%m%d %H:%M:%S", time.gmtime(1772359200 + int(moment)))
     return f"I{stamp}.{round(moment % 1 * 10 ** 6):06} {process:7} helpers.go:1] {said}\n"
 
@@ -68,7 +68,7 @@ def with_lines(*more):
 
 
 def node_of(*more):
-    """What the node line says, and what is said at the end."""
+    """What the node line has, and the messages at the end."""
     status, trace, said = imported(given=with_lines(*more))
     expect("import of thresholds: each pod is spared", (status, {pod.get("spared") for pod in pod_lines(trace)}),
            (0, {True}))
@@ -80,7 +80,7 @@ def thresholds_in(node):
 
 
 def test_import_of_hard_thresholds():
-    """They are in the node line as the kubelet says them when it starts, in each form; a part of a capacity that no
+    """They are in the node line as the kubelet logs them when it starts, in each form; a part of a capacity that no
     line has sets none."""
     rounds = round_of(20, "4Gi")
     wanted = {"evictionHard": {MEMORY: "100Mi", DISK: "10%"}, "evictionsRecorded": True}
@@ -156,8 +156,8 @@ def test_import_of_flags():
 
 
 def test_import_of_what_rounds_show():
-    """How long a condition stays after the last round that met it, and how much has to be reclaimed, no line says:
-    what fits the rounds is taken, and marked."""
+    """No line has how long a condition stays after the last round that met it, and how much has to be reclaimed: the
+    import takes what fits the rounds, and marks it."""
     met = round_of(20, "1Gi", "MemoryPressure", "MemoryPressure", ["2Gi"])
     stays = round_of(30, "3Gi", "", "MemoryPressure") + round_of(40, "3Gi", "", "MemoryPressure")
     node, said = node_of(configured(), met, stays, round_of(52, "3Gi"), round_of(62, "3Gi"))
@@ -174,7 +174,7 @@ def test_import_of_what_rounds_show():
 
 
 def test_import_of_thresholds_that_come_late():
-    """A trace alone has all that the journal tells; of traces in a folder the next one begins before the round that
+    """A trace alone has all that the journal shows; of traces in a folder the next one begins before the round that
     shows it first, by no more than what is held back."""
     lines = "".join(round_of(second, "4Gi") for second in range(20, 1500, 10))
     lines += round_of(1500, "1Gi", "MemoryPressure", "MemoryPressure", ["2Gi"])
@@ -199,7 +199,8 @@ def test_import_of_thresholds_that_come_late():
 
 
 def test_import_of_a_kubelet_that_is_started_anew_with_other_thresholds():
-    """A trace alone has those that stayed the same, which is said; traces in a folder have each their own."""
+    """A trace alone has the ones that stayed the same, and a line reports that; traces in a folder have each their
+    own."""
     other = HARD.replace("100Mi", "1Gi")
     more = [configured(), round_of(20, "4Gi"), configured(other, False, 61.6, 9999), round_of(
         70, "4Gi", process=9999)]
@@ -227,7 +228,7 @@ TOLD = re.compile(r"I(\d\d)(\d\d) (\d\d):(\d\d):(\d\d)\.\d+ .*?\] eviction manag
 
 
 def turns_told(log):
-    """The conditions that turn, by what the rounds of a log tell: (moment, condition, whether it is true)."""
+    """The conditions that turn, by what the rounds of a log show: (moment, condition, whether it is true)."""
     rounds = []
     for *moment, what, conditions in TOLD.findall(log):
         if what == "synchronize":
@@ -245,7 +246,7 @@ def turns_told(log):
 
 
 def test_import_of_conditions():
-    """The conditions of a real kubelet turn in the report of the trace in the seconds in which its rounds tell it, and
+    """The conditions of a real kubelet turn in the report of the trace in the seconds in which its rounds show it, and
     the rules name nobody. docs/import.md has how many they are."""
     with lzma.open(f"{RECORDING}/kubelet.log.xz", "rt", encoding="utf-8", errors="replace") as file:
         log = file.read()

@@ -1,6 +1,6 @@
-"""The tests of whose lines an import reads in a journal of a whole node: the kubelet's, a runtime's and the kernel's,
-by their units; and of what a runtime says of exits. The forms of runtimes and of the kernel are written from knowledge,
-but for that of containerd 1.6, which is as it was."""
+"""The tests of whose lines an import reads in a journal of a whole node, by their units: the kubelet's, a runtime's and
+the kernel's; and of what a runtime logs of exits. The forms of runtimes and of the kernel are written from knowledge,
+except the form of containerd 1.6, which is as it was."""
 
 import json
 
@@ -24,7 +24,7 @@ def record(second, said, unit=None, name="kubelet", process="2211", fraction="00
 
 
 def whole(text, *others, unit="kubelet.service", name="kubelet"):
-    """A journal of a node, with lines of others: (moment, what is said, unit, name)."""
+    """A journal of a node, with lines of others: (moment, text, unit, name)."""
     rows = [(second, int(fraction), record(second, each, unit, name, process, fraction))
             for each, second, fraction, process, *_ in lines_of(text)]
     rows += [(BEGUN + int(at), int(at % 1 * 1e6), record(BEGUN + int(at), said, of_unit, of_name, "77",
@@ -45,8 +45,8 @@ FORGED = [(30.0, f'"Killing container with a grace period" pod="shop/web" podUID
 
 
 def test_import_of_a_whole_journal():
-    """Lines of another unit show nothing of the kubelet, whatever name its process gives itself: neither those of
-    kube-proxy, nor what a container writes that logs to journald."""
+    """Lines of another unit show nothing of the kubelet, whatever name its process gives itself: neither kube-proxy's
+    lines, nor what a container writes that logs to journald."""
     text, wanted = read(f"{FOLDER}/keyed.log"), read(f"{FOLDER}/keyed.trace")
     proxy = [(5.0 + 3 * place, klog(5 + 3 * place, f'"Successfully retrieved node IP" ip="{place}"'),
               "kube-proxy.service", "kube-proxy") for place in range(12)]
@@ -63,7 +63,7 @@ def test_import_of_a_whole_journal():
 
 
 def test_import_of_other_units():
-    """The kubelet of a distribution has another unit, which --unit names; those of OpenShift and EKS are known."""
+    """The kubelet of a distribution has another unit, which --unit names; the units of OpenShift and EKS are known."""
     text, wanted = read(f"{FOLDER}/keyed.log"), read(f"{FOLDER}/keyed.trace")
     for unit, name in (("kubelet.service", "kubenswrapper"), ("snap.kubelet-eks.daemon.service", "kubelet-eks.daemon"),
                        (None, "hyperkube")):
@@ -76,8 +76,8 @@ def test_import_of_other_units():
 
 
 def test_import_of_shims():
-    """A containerd up to 1.7 says of an exit that nobody ordered that the shim has disconnected: as text, as JSON and
-    in a journal; and once a line has the code, that is taken too."""
+    """A containerd up to 1.7 reports an exit that nobody ordered as the shim's disconnection: as text, as JSON and in a
+    journal; and once a line has the code, that is taken too."""
     said = [(5.5, "RunPodSandbox for &PodSandboxMetadata{Name:web,Uid:%s,Namespace:shop,Attempt:0,} returns sandbox id "
                   f'"{SANDBOX}"' % UIDS["web"], ""),
             (6.0, f'CreateContainer within sandbox "{SANDBOX}" for &ContainerMetadata{{Name:app,Attempt:0,}} returns '
@@ -104,8 +104,8 @@ def test_import_of_shims():
 
 
 def test_import_of_later_runtimes():
-    """From 2.1 on containerd has words of its own for exits of containers and of sandboxes; CRI-O's monitors say codes,
-    with 20 digits of an id."""
+    """From 2.1 on containerd has words of its own for exits of containers and of sandboxes; CRI-O's monitors have
+    codes, with 20 digits of an id."""
     text = read(f"{FOLDER}/containerd.log")
     for words in ("received container exit event", "received exit event"):
         made = "".join(each.replace("TaskExit event", words) for each in text.splitlines(keepends=True))
@@ -125,7 +125,7 @@ def test_import_of_later_runtimes():
         (6, "RUNNING", None), (20, "EXITED", 4)]))
 
 
-# --- what is said of kills for memory ---
+# --- what lines have of kills for memory ---
 
 
 def reasons_in(trace, pod="shop/web"):

@@ -18,8 +18,8 @@ from replay_tools import tree
 load_tests = cases.loaded(__name__)
 
 FEW, MANY, HOUR = 10, 60, 3600
-# calls of functions for each pod that is there for an hour. An import that looks at each pod once a minute takes 4,155,
-# and 5,559 where it reads each line of a folder again. One that looks at each pod in each tick takes 1,718
+# calls of functions for each pod that is there for an hour. An import that checks each pod once a minute takes 4,155,
+# and 5,559 where it reads each line of a folder again. One that checks each pod in each tick takes 1,718
 MOST_ALONE, MOST_INTO = 1200, 1500
 # what finds and reads traces, which an import doesn't
 NEEDLESS = "replay_tools.plugin.files", "replay_tools.traces", "replay_tools.report"

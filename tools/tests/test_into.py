@@ -20,13 +20,13 @@ TOLD = ("started", "died", "kill", "ready", "unready")
 
 
 def told_in(report, behind=-1):
-    """What a report tells of containers and pods after a second."""
+    """What a report has of containers and pods after a second."""
     events = [line.split(" ") for line in report.split("\n") if line.startswith("event ")]
     return sorted(" ".join(event) for event in events if event[4] in TOLD and int(event[1]) > behind)
 
 
 def known_in(report):
-    """What a report says at its end of each pod and its containers, by their keys; the last one of a key counts. Of a
+    """What a report has at its end of each pod and its containers, by their keys; the last one of a key counts. Of a
     pod that the node has ended it shows how its containers were then, and the next trace how they are at its begin."""
     found, keys = {}, {}
     for line in report.splitlines():
@@ -56,7 +56,7 @@ def border_fault(before, text):
 
 
 def borders_fault(play, *words, each="10s", recording=None):
-    """What traces one after the other say otherwise than one trace of the same play, or None."""
+    """Where traces one after the other differ from one trace of the same script, or None."""
     into = Into(play, recording)
     whole, made = into.record(*words, "--extended"), into.into(*words, "--each", each)
     texts = into.texts()
@@ -84,8 +84,8 @@ def chance_fault(seed):
 
 
 def test_borders_by_chance():
-    """Plays over several rotations: laid one after the other the traces have the lines of one trace, and each alone
-    tells what happens in its time, from what the one before ended with."""
+    """Scripts over several rotations: joined, the traces have the lines of one trace, and each alone shows what happens
+    in its time, from what the one before ended with."""
     with ThreadPoolExecutor(4) as threads:
         faults = list(filter(None, threads.map(chance_fault, range(1000, 1000 + PLAYS))))
     expect("borders of plays by chance", faults[:1], [])
@@ -154,7 +154,7 @@ def test_reasons_that_are_carried():
 
 
 def test_what_was_before():
-    """A pod that is met as it runs: what its status says of its probes is in the first tick, in the first trace too."""
+    """A pod that is met as it runs: what its status has of its probes is in the first tick, in the first trace too."""
     probes = {"startupProbe": {"periodSeconds": 1}, "readinessProbe": {"initialDelaySeconds": 20, "periodSeconds": 10}}
     names = {"ready": (0, True, True), "started": (0, True, False), "other": (1, True, True)}
     made = [{"id": f"c{number}", "pod": f"shop/{name}", "name": "app", "attempt": 0, "created": -100, "started": -99,
@@ -195,7 +195,7 @@ def test_many_pods():
 
 
 def test_more_pods_than_a_trace_has():
-    """Of 258 pods two are left out; where others have gone they are there after the next border."""
+    """Of 258 pods two are left out; where others have gone they are there after the next rotation."""
     spec = {"containers": [{"name": "app"}]}
     lives = {f"shop/p{number:03}": {"spec": spec, **({"until": 14} if number < 20 else {})} for number in range(258)}
     made = [{"id": f"c{number}", "pod": f"shop/p{number:03}", "name": "app", "attempt": 0, "created": -2, "started": -1,

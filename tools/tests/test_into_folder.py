@@ -35,7 +35,7 @@ load_tests = cases.loaded(__name__)
 
 
 def test_old_traces_go():
-    """By age, and no more than two at once, since a clock may be wrong; then by size; those of others stay."""
+    """By age, and no more than two at once, since a clock may be wrong; then by size; the files of others stay."""
     stamps = [f"n1.2025-12-{day:02}T00-00-00Z.trace.gz" for day in range(25, 32)]
     others = ["n2.2025-12-01T00-00-00Z.trace.gz", "n1.2025-12-01.trace.gz", "notes"]
     for words, kept in ((("--keep", "48h"), stamps[2:]), (("--keep", "400d"), stamps),
@@ -91,7 +91,7 @@ def test_folders_that_cannot_be():
 
 
 def test_folders_of_others():
-    """One that others may write is refused, but for a sticky one in which the recorder's names are its own."""
+    """A folder that others may write is rejected, except a sticky one in which the recorder's names are its own."""
     into = Into(quiet_node(1, 60))
     for mode in (0o777, 0o775, 0o2770):
         os.chmod(into.folder, mode)
@@ -192,8 +192,8 @@ class MovingClock(Clock):
 
 
 def test_a_folder_that_is_replaced():
-    """A recorder whose folder was removed, or removed and made again, stops with status 1, says so, and writes nothing
-    into the new one, which another recorder may use."""
+    """A recorder whose folder was removed, or removed and made again, stops with status 1 and a message, and writes
+    nothing into the new one, which another recorder may use."""
     for name, is_made_again in (("removed", False), ("made again", True)):
         into = Into(quiet_node(1, 60))
         clock = MovingClock(into.folder, is_made_again)
@@ -220,7 +220,7 @@ def made_in(into):
 
 
 def test_a_full_file_system():
-    """The oldest traces go first. Where there is none the recorder says so once, and goes on to its end."""
+    """The oldest traces go first. Where there is none the recorder reports that once, and goes on to its end."""
     if not can_mount():
         return
     into = Into(quiet_node(30, 100))
@@ -341,7 +341,7 @@ def test_crashes():
 
 
 def test_clocks_that_jump():
-    """A clock that goes back by an hour, and one that goes forward: one line, and all that happens is told."""
+    """A clock that goes back by an hour, and one that goes forward: one line, and all that happens is recorded."""
     for name, jump in (("back", -3600), ("forward", 3600)):
         play = probed_play()
         play["true"] = list(range(SECONDS))
@@ -391,7 +391,7 @@ def a_trace():
 
 
 def left_files():
-    """What may lie in a folder: what it is, the files, what is said, and what is there after the start."""
+    """What may lie in a folder: what it is, the files, the messages, and what is there after the start."""
     whole = a_trace()
     cut, name = whole[:whole.rindex(b"\n", 0, -9) + 50], "n1.2025-12-31T23-00-00Z.trace"
     ended = f"record: {name}.part was left by a recorder that did not end: it is"
@@ -463,7 +463,7 @@ def parts_in(folder):
 
 
 def test_ends():
-    """One that is told to end gives its trace its name; what one that is killed leaves the next one ends."""
+    """A recorder that a signal ends gives its trace its name; the next one ends what a killed one leaves."""
     for name, number in (("told to end", signal.SIGTERM), ("killed", signal.SIGKILL)):
         recorder = Recorder("crash_loop")
         folder = f"{recorder.run}/traces"
@@ -479,7 +479,7 @@ def test_ends():
                 ["trace.gz" if number == signal.SIGTERM else "trace.part"]))
         if number == signal.SIGKILL:
             process = recorder.start(*words)
-            # it has said so before it begins a part of its own
+            # its message comes before it begins a part of its own
             wait_until("the next one's part", lambda: set(parts_in(folder)) - set(made))
             process.send_signal(signal.SIGTERM)
             said = process.communicate(timeout=LONGEST)[1].decode()
@@ -498,7 +498,8 @@ def long_trace(second, lines):
 
 
 def test_ends_while_it_packs():
-    """One that is told to end while it ends what another one has left does that first; what it has not begun stays."""
+    """A recorder that a signal ends while it ends what another one has left does that first; what it has not begun
+    stays."""
     recorder = Recorder("crash_loop")
     folder, names = f"{recorder.run}/traces", [f"worker-3.2025-12-31T0{hour}-00-00Z.trace" for hour in range(2)]
     for number in (signal.SIGTERM, signal.SIGINT, signal.SIGHUP):
@@ -525,7 +526,7 @@ def test_ends_while_it_packs():
 
 
 def test_crictl_words():
-    """crictl by other words, as those of a node's own."""
+    """crictl by other words, as with a node's own crictl."""
     recorder = Recorder("crash_loop")
     answer = run([f"{TOOLS}/record", "--check", "--node", "worker-3", "--crictl", "env X=1 crictl"],
                  **recorder.settings)

@@ -40,7 +40,7 @@ class CountedClock(ClockUntil):
 
 
 def recorded(place, clock, words):
-    """Records a play into its folder until the clock's end."""
+    """Records a script into its folder until the clock's end."""
     play = Play(f"{place.run}/play.json")
     sources = Sources("n1", run=lambda asked, seconds: play.answer(asked, clock.now()))
     words = words_of(["--node", "n1", "--into", place.folder, *words])
@@ -55,7 +55,7 @@ def recorded(place, clock, words):
 
 
 def counted(moment, told):
-    """Kills this process in the line of the recorder's folder with this number, or tells how many there are."""
+    """Kills this process in the line of the recorder's folder with this number, or counts how many there are."""
     count = 0
 
     def trace(frame, event, _):
@@ -75,8 +75,8 @@ def counted(moment, told):
 
 
 def killed(place, words, second, moment=-1):
-    """A process that records, and is killed within its look at a second; its id, and where it tells how many moments
-    that look has."""
+    """A process that records, and is killed within its poll at a second; its id, and where it writes how many moments
+    that poll has."""
     read_end, write_end = os.pipe()
     identity = os.fork()
     if identity == 0:
@@ -94,7 +94,7 @@ def killed(place, words, second, moment=-1):
 
 
 def left_by(place, identity, read_end):
-    """The traces as one that the next recorder makes of what a killed one has left, and the moments that it told."""
+    """The traces as one that the next recorder makes of what a killed one has left, and the moments that it wrote."""
     status = os.waitpid(identity, 0)[1]
     with os.fdopen(read_end) as file:
         told = file.read()
@@ -120,8 +120,8 @@ def whole_at(play, words, second):
 
 
 def faults_of(play, words, second, moments):
-    """What a kill at so many moments of a look, in which one trace ends, leaves otherwise than as it was before that
-    look, or after it."""
+    """What a kill at so many moments of a poll, in which one trace ends, leaves otherwise than as it was before that
+    poll, or after it."""
     _, before, _, names = whole_at(play, words, second - 1)
     _, behind, told, now = whole_at(play, words, second)
     if len(now) != len(names) + 1:

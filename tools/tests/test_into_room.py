@@ -1,5 +1,5 @@
-"""The tests of what goes out of the folder of `tools/record --into` for room: only as long as that makes some, and each
-is said; and of a folder that is made."""
+"""The tests of what goes out of the folder of `tools/record --into` for room: only as long as that makes some, and with
+a line for each; and of a folder that is made."""
 
 import contextlib
 import errno
@@ -41,7 +41,7 @@ def is_said(said, text):
 
 @contextlib.contextmanager
 def fsync_fails(error):
-    """As of a volume that is thin and full: what was written does not come onto the disk, which says it has room."""
+    """As of a volume that is thin and full: what was written does not come onto the disk, which reports room."""
     real = os.fsync
 
     def fsync(descriptor):
@@ -90,7 +90,7 @@ def quota_of(into, most):
 
 
 def test_a_quota():
-    """The oldest go one by one as the quota is reached, each is said, and nothing is lost."""
+    """The oldest go one by one as the quota is reached, each with a line, and nothing is lost."""
     into = Into(quiet_node(10, 100))
     whole = into.record("--for", "60", "--every", "1", "--extended")[1]
     put_hours(into, 4000)

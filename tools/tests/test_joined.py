@@ -1,4 +1,4 @@
-"""The tests of several traces that are told as one: next to one recording of the same play, over rotations and gaps."""
+"""The tests of several traces that are joined: next to one recording of the same script, over rotations and gaps."""
 
 import contextlib
 import glob
@@ -40,8 +40,8 @@ OF_CONTAINER = ("pod", "name", "state", "code", "restarts", "ready", "started", 
 
 
 def told_of(lines):
-    """What is told of the pods that the rules evict nowhere: their events, their records and those of their
-    containers."""
+    """What is shown of the pods that the rules evict nowhere: their events, their records and their containers'
+    records."""
     evicted = {line["pod_number"] for line in lines if line["record"] == "eviction"}
     events = [(line["at"], line["event"], line["pod"], line["pod_number"], line.get("container"), line.get("attempt"),
                line.get("code"), line.get("reason"), line.get("phase")) for line in lines
@@ -53,7 +53,7 @@ def told_of(lines):
 
 
 def joined_fault(play, *words, each="10s", recording=None):
-    """What traces one after the other tell together otherwise than one recording of the same play, or None."""
+    """Where traces one after the other differ, joined, from one recording of the same script, or None."""
     into = Into(play, recording)
     whole = into.record(*words, "--extended")[1]
     into.into(*words, "--each", each)
@@ -111,8 +111,8 @@ def test_joined_of_a_real_kubelet():
 
 
 def belongs_fault(folder, has_gaps=False):
-    """Why the joined trace is not one of the joined report, or what a tool says of them, where there is no gap to say;
-    None where all is well."""
+    """Why the joined trace is not the trace of the joined report, or what a tool prints of them, where there is no gap
+    to report; None where all is well."""
     environment = os.environ.get("KUBELET_REPLAY")
     os.environ["KUBELET_REPLAY"] = REPLAY
     try:
@@ -135,7 +135,7 @@ def belongs_fault(folder, has_gaps=False):
 
 
 def test_joined_belongs():
-    """Over rotations each event of each play is at a tick that lists it, and each tool takes it."""
+    """Over rotations each event of each script is at a tick that lists it, and each tool takes it."""
     for path in sorted(glob.glob(f"{HERE}/recordings/*/play.json")):
         name = os.path.basename(os.path.dirname(path))
         if read(f"{os.path.dirname(path)}/words").split()[:1] == ["--standard"] or "extended" not in name:
@@ -172,7 +172,7 @@ def test_joined_belongs():
     again = [line.split("  ")[-1] for line in told.split("\n") if "14:28:00Z)" in line]
     expect("a pod that the rules evicted before a border is there again", again, [
         "phase Running (there again, as on the node, at 14:28:00Z)",
-        "the rules evict it: memory.available hard, grace 0 s (the rules begin anew at 14:28:00Z)"])
+        "the rules evict it: memory.available hard, grace 0 s (the rules begin again at 14:28:00Z)"])
     into.clean()
 
 
@@ -196,7 +196,7 @@ def test_joined_with_gaps_by_chance():
 
 
 def test_story_over_borders():
-    """A restart over a rotation is told once, and where exits are counted again it is said."""
+    """A restart over a rotation is shown once, and where exits are counted again a line reports that."""
     with Folder() as folder:
         for name, words in (("story", ["story", "web"]), ("quiet", ["story", "quiet", "--without-why"]),
                             ("pods", ["story"]), ("at", ["story", "web", "--at", "2026-01-01T00:00:50Z"]),
@@ -239,8 +239,8 @@ def test_a_moment():
 
 
 def test_gap():
-    """Of a trace that is not there nothing is told: it is a gap, what came of it is at its end, and what came in
-    it counts in no seconds."""
+    """Nothing is shown of a trace that is not there: it is a gap, what came of it is at its end, and what came in it
+    counts in no seconds."""
     with Folder() as folder:
         os.remove(folder.place(40))
         status, told, said = folder.tell("story", "web", "--without-why")
@@ -303,7 +303,7 @@ def test_gap_of_a_recorder():
 
 
 def test_recorder_that_starts_again():
-    """Its first ticks show what the statuses of the pods say, and are before it began: nothing of that is told of the
+    """Its first ticks show what the statuses of the pods have, and are before it began: nothing of that is shown in the
     gap, and a pod that was ready stays so."""
     first = Into(restarted_play(0))
     first.into("--for", "30", "--each", "1h")
@@ -312,7 +312,7 @@ def test_recorder_that_starts_again():
         (31, "b", ["started", "ready", "phase Running", "died with code 2 (by then, in the gap since 00:00:30Z)",
                    "restart (by then, in the gap since 00:00:30Z)", "unready (by then, in the gap since 00:00:30Z)",
                    "started", "ready"]),
-        (31, "c", ["started", "phase Running", "ready", "unready (results counted anew since 00:00:31Z)"]),
+        (31, "c", ["started", "phase Running", "ready", "unready (results counted only since 00:00:31Z)"]),
         (36, "b", ["started", "ready", "phase Running", "started (by then, in the gap since 00:00:30Z)"]),
     ):
         again = Into(restarted_play(shift))
@@ -329,8 +329,8 @@ def test_recorder_that_starts_again():
 
 
 def met_again(uid, is_told=True, **container):
-    """What is told of a pod of a name that is recorded for 30 s, and again from 40 s on, by when it may be another one;
-    and the texts of the traces, which may be without uids."""
+    """What is shown of a pod of a name that is recorded for 30 s, and again from 40 s on, by when it may be another
+    one; and the texts of the traces, which may be without uids."""
     def play(begin, uid, **container):
         made = {"id": uid, "uid": uid, "pod": "shop/web", "name": "app", "attempt": 0, **container}
         return {"begin": BEGIN + begin, "samples": {"-1": {"memory": 4294967296}}, "containers": [made], "pods": {
@@ -355,7 +355,7 @@ def met_again(uid, is_told=True, **container):
 
 
 def test_a_pod_of_the_same_name_behind_a_gap():
-    """A pod that came under the name of another one while no recorder ran is told as another one, by its uid."""
+    """A pod that came under the name of another one while no recorder ran is shown as another one, by its uid."""
     (status, told, said), pods, texts = met_again("two", exited=20, code=3)
     expect("another pod behind a gap: the uids", [re.findall('"uid":"([a-z]*)"', text) for text in texts],
            [["one"], ["two"], ["two"]])
@@ -371,8 +371,8 @@ def test_a_pod_of_the_same_name_behind_a_gap():
 
 
 def evicted_meanwhile(at, has_begun=True, is_left=False, is_probed=True):
-    """What a recorder that goes on in a folder tells of a pod that was evicted before it began, by its status at a
-    moment: in which trace and line, and what is told of all traces together."""
+    """What a recorder that goes on in a folder writes of a pod that was evicted before it began, by its status at a
+    moment: in which trace and line, and what is shown of all traces together."""
     first, play = Into(restarted_play(0)), restarted_play(60)
     play["containers"] = [each if is_probed else {**each, "shown": {}} for each in play["containers"]
                           if each["pod"] != "shop/c"]
@@ -402,7 +402,7 @@ def evicted_meanwhile(at, has_begun=True, is_left=False, is_probed=True):
 
 
 def test_evicted_while_no_recorder_ran():
-    """A recorder that goes on in a folder tells in its first tick whom the kubelet has evicted since."""
+    """A recorder that goes on in a folder has in its first tick whom the kubelet has evicted since."""
     wanted = {"evicted": [{"pod": "shop/c", "uid": "uid-c", "at": BEGIN + 45, "reason": "Evicted", "leftOut": True,
                            "message": "The node was low on resource: memory."}]}
     for name, how in (("a trace", {}), ("a part that was left", {"is_left": True}),

@@ -1,5 +1,5 @@
-"""The tests of which traces are told as one: those of a time, a part that is still written, files that can't be told
-together or at all, reports, and traces that gzip has packed."""
+"""The tests of which traces are joined: the traces of a time, a part that is still written, files that can't be joined
+or read at all, reports, and traces that gzip has packed."""
 
 import gzip
 import json
@@ -32,7 +32,7 @@ def test_time_of_traces():
 
 
 def test_part_that_is_written():
-    """The trace that is still written is read as far as its last whole line, which is said."""
+    """The trace that is still written is read as far as its last whole line, and a line reports that."""
     with Folder() as folder:
         whole = folder.tell("story", "web")
         text = folder.text(80)
@@ -59,8 +59,8 @@ def test_part_that_is_written():
 
 
 def test_traces_of_a_slow_look():
-    """A recorder that was killed after a slow look leaves a trace that ends some seconds after the next one begins:
-    they are joined. By more than that they overlap, and the longer one is kept; two that were named are refused."""
+    """A recorder that was killed after a slow poll leaves a trace that ends some seconds after the next one begins:
+    they are joined. By more than that they overlap, and the longer one is kept; two that were named are rejected."""
     with Folder() as folder:
         text = folder.text(60)
         last = json.loads(text.splitlines()[-1])
@@ -78,7 +78,7 @@ def test_traces_of_a_slow_look():
 
 
 def test_traces_that_are_left_out():
-    """Of a folder what can't be used is left out, and said; by its name it is refused."""
+    """What can't be used of a folder is left out, and reported; by its name it is rejected."""
     with Folder() as folder:
         with open(folder.place(40), "rb") as file:
             packed = file.read()
@@ -143,7 +143,7 @@ def test_traces_that_are_none_together():
 
 
 def test_reports_alone():
-    """Reports without their traces are told as one too; between them nothing is known."""
+    """Reports without their traces are joined too; between them nothing is known."""
     with Folder() as folder:
         words = []
         for second in (0, 20, 40):
@@ -196,7 +196,7 @@ def test_packed_traces():
 
 
 def test_command_of_several():
-    """kubelet-replay hands files, folders and times on."""
+    """kubelet-replay passes files, folders and times on."""
     with Folder() as folder:
         wanted = folder.tell("story", "web", "--without-why")
         first, *rest = (folder.place(second) for second in (0, 20, 40, 60, 80))

@@ -1,4 +1,4 @@
-"""The tests of tools/json: a report and its lines, the schema, the tables, and what is refused."""
+"""The tests of tools/json: a report and its lines, the schema, the tables, and what is rejected."""
 
 import glob
 import json
@@ -166,7 +166,7 @@ def content(path):
 
 
 def test_files_of_others():
-    """A recording stays, and so does every file that is no database of json, that of a fleet too."""
+    """A recording stays, and so does every file that is no database of json, a fleet's database too."""
     folder = tempfile.mkdtemp()
     report, trace = f"{TOP}/examples/liveness_kill.report", f"{TOP}/examples/liveness_kill.trace"
     shutil.copy(trace, f"{folder}/node.trace")

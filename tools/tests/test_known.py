@@ -1,5 +1,5 @@
 """The tests of what a trace has and lacks: restarts of the kubelet, manifests that are unknown, imports, pods that a
-recorder marked wrongly, and causes that were told wrongly."""
+recorder marked wrongly, and causes that were shown wrongly."""
 
 import json
 import os
@@ -114,7 +114,7 @@ def test_turns_of_ready():
 
 
 def test_a_pod_that_was_refused_again():
-    """One that had run, and was refused when a kubelet that had restarted admitted its pods, is not told as evicted."""
+    """A pod that had run, and that a restarted kubelet did not admit again, is not shown as evicted."""
     refused = {"kubelet": {"refused": [{"pod": "shop/web", "at": BEGIN + 9, "reason": "Evicted", "message":
                                         "The node had condition: [MemoryPressure]. "}]}}
     told = Told(NODE, pod("web"), tick(0, entry("web", runs())),
@@ -173,7 +173,7 @@ def test_an_unknown_phase():
 
 
 def test_an_owners_template():
-    """A manifest that has limits or probes was made of an owner's template, and is told as it is."""
+    """A manifest that has limits or probes was made of an owner's template, and is shown as it is."""
     told = Told(NODE, pod("web", {"resources": {"limits": {"memory": "32Mi"}}}, guessed=["manifest"]),
                 tick(0, entry("web", runs())), tick(9, entry("web", exited(137, reason="OOMKilled"))))
     story = told.by("story", "shop/web")
@@ -181,7 +181,7 @@ def test_an_owners_template():
 
 
 def test_imported():
-    """Stories and pages of an import say so in their heads, with what it lacks."""
+    """Stories and pages of an import have that in their heads, with what it lacks."""
     probe = {"readinessProbe": {"periodSeconds": 1}}
     lines = [pod("web", probe), pod("calm", guessed=["manifest"]),
              tick(0, entry("web", exited(1, guessed=["exitCode"])), entry("calm", runs()))]

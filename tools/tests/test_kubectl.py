@@ -27,7 +27,7 @@ FIRST_WITH_COMPLETION = 26
 
 
 def make_folder():
-    """A folder with a stand-in for the program, a trace, a report, and a text that is refused."""
+    """A folder with a stand-in for the program, a trace, a report, and a text that is rejected."""
     folder = tempfile.mkdtemp()
     shutil.copy(f"{KEPT}/commands/show", f"{folder}/kubelet_replay")
     report = run([REPLAY], TRACE)[1]
@@ -41,7 +41,7 @@ def make_folder():
 
 
 def rows(table):
-    """The rows of a table in which FOLDER stands for a folder."""
+    """The rows of a table in which FOLDER is the name of a folder."""
     return [line.split("\t") for line in read(f"{KEPT}/{table}.table").split("\n")[1:-1]]
 
 
@@ -69,8 +69,8 @@ def test_kubectl_words():
 
 
 def test_kubectl_runs_the_program():
-    """What the program says of a trace of each format, of a file and of a pipe, is what it says itself; after a
-    refusal stands one more line. A file that can't be read has the status 2."""
+    """What is printed of a trace of each format, of a file and of a pipe, is what the program prints itself; one more
+    line follows a rejection. A file that can't be read has the status 2."""
     folder = make_folder()
 
     def first_line(answer):

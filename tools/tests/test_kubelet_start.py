@@ -1,5 +1,5 @@
-"""The tests of a kubelet that restarts: which of its lists are no answer, what is told of its start, which pods
-are deleted that it lists no more, and how the condition Ready of a pod's status has turned."""
+"""The tests of a kubelet that restarts: which of its lists are no answer, what is shown of its start, which pods are
+deleted that it lists no more, and how the condition Ready of a pod's status has turned."""
 
 import gzip
 import json
@@ -52,7 +52,7 @@ def container(pod, identity, **more):
 
 def play(**more):
     """Four pods: one runs, one has ended, one waits for its next start, and one is of a file; the kubelet restarts at
-    20.5, answers from 24 on, and lists its pods from 25 on, those of a file before all others."""
+    20.5, answers from 24 on, and lists its pods from 25 on, the pod of a file before all others."""
     spec = {"containers": [{"name": "app", "readinessProbe": {"periodSeconds": 5}}]}
     silent = [{"kind": kind, "from": 20, "until": 24, "text": "gave no answer: Connection refused"}
               for kind in ("pods", "probes", "summary", "metrics")]
@@ -74,7 +74,7 @@ BY_KUBECTL = ()
 
 
 def recorded(script, look, *words, asks=BY_ADDRESS, lasts=60):
-    """The status of a recording of a play, its trace and what it says."""
+    """The status of a recording of a script, its trace and its messages."""
     into = Into(script)
     answer = into.record("--for", str(lasts), "--extended", *asks, "--look", str(look), *words)
     into.clean()
@@ -82,8 +82,8 @@ def recorded(script, look, *words, asks=BY_ADDRESS, lasts=60):
 
 
 def test_start():
-    """No pod is deleted or gone that a kubelet does not list yet, the start is told, and what happens behind it too,
-    whichever look falls into the seconds in which its lists lack pods."""
+    """No pod is deleted or gone that a kubelet does not list yet, the start is shown, and what happens after it too,
+    whichever poll falls into the seconds in which its lists lack pods."""
     for look in POLLS:
         for shift in (0, 0.4, 0.9, 1.5, 2.5):
             script = play(clock=[shift])
@@ -97,7 +97,7 @@ def test_start():
 
 
 def test_start_without_its_moment():
-    """A kubelet that does not say when it was started: no pod is deleted for its lists, and the start is told where
+    """A kubelet that does not report when it was started: no pod is deleted for its lists, and the start is shown where
     counts of probes fell."""
     fails = [*play()["fails"], {"kind": "metrics", "from": 0, "until": 99, "text": "failed: 403"}]
     for look in POLLS:
@@ -115,15 +115,15 @@ def silent(**until):
 # a restart that is over before the next look, and one after which only the pods of a file are listed for long
 QUICK = [{"from": 20.6, "until": 21.5, "pods": []}, {"from": 21.5, "until": 23.2, "pods": ["shop/file"]}]
 LONG = [{"from": 20.6, "until": 22.9, "pods": []}, {"from": 22.9, "until": 30.2, "pods": ["shop/file"]}]
-# which answers are silent for how long: all but the list of pods, the one that tells the start, or the list itself
+# which answers are silent for how long: all but the list of pods, the one that has the start, or the list itself
 SILENT = (silent(), silent(metrics=23), silent(metrics=32), silent(metrics=99), silent(summary=32), silent(pods=21),
           silent(metrics=32, summary=32), silent(probes=32, metrics=32, summary=32),
           [{"kind": "metrics", "from": 21.7, "until": 26, "text": "gave no answer"}])
 
 
 def test_lists_beside_silent_answers():
-    """A list is no word on a pod while the kubelet does not say that it is the same process: none is deleted or gone,
-    whichever of its answers are silent, for however long, and whoever gives its list."""
+    """A list decides nothing about a pod while the kubelet does not report that it is the same process: none is deleted
+    or gone, whichever of its answers are silent, for however long, and whoever gives its list."""
     by_address, by_kubectl = ((1, 0.9, LONG), (1, 1.5, QUICK), (5, 2.5, LONG)), ((1, 0, QUICK),)
     for asks, looks in ((BY_ADDRESS, by_address), (BY_KUBECTL, by_kubectl)):
         for number, fails in enumerate(SILENT):
@@ -132,15 +132,15 @@ def test_lists_beside_silent_answers():
                 status, trace, said = recorded(script, look, asks=asks)
                 place = f"silent answers {number}, --look {look}, from {shift} on, by {asks or 'kubectl'}"
                 expect(place, (status, words_of(trace, "deleting"), gone_of(trace)), (0, [], []))
-                # that it restarted is known as soon as it says when it was started
+                # that it restarted is known as soon as it reports when it was started
                 wanted = [] if silent(metrics=99) == fails else [20]
                 expect(f"{place}: it is told", [at for at, _ in started_of(trace)], wanted)
                 expect(f"{place}: it is said", said.count("the kubelet restarted"), len(wanted))
 
 
 def test_api_server_is_away():
-    """A kubelet that was started while the API server is away lists the pods of files alone: those of which the runtime
-    has containers are there, however long that lasts."""
+    """A kubelet that was started while the API server is away lists the pods of files alone. Pods of which the runtime
+    has containers are there all the same, however long that lasts."""
     for look in POLLS:
         script = play(lists=[{"from": 24, "until": 25, "pods": []}, {"from": 25, "until": 110, "pods": ["shop/file"]}])
         status, trace, _ = recorded(script, look, lasts=130)
@@ -159,7 +159,7 @@ def test_ended_before_a_start():
 
 def test_deleted_beside_a_start():
     """A pod that is deleted while the kubelet restarts goes once its lists are whole, and one that is deleted later is
-    told at once, also by a kubelet that won't say when it was started."""
+    shown at once, also by a kubelet that won't report when it was started."""
     for asks in (BY_ADDRESS, BY_KUBECTL):
         for look in POLLS:
             script = play()
@@ -212,8 +212,8 @@ def test_lists_without_a_start():
 
 
 def test_taken_back():
-    """A pod that was taken for deleted shows again under its uid: it is there, in a line of its own, and nothing says
-    that it is being deleted."""
+    """A pod that was taken for deleted shows again under its uid: it is there, in a line of its own, and nothing shows
+    it as being deleted."""
     script = play(started=[-3600], fails=[], lists=[{"from": 5, "until": 40, "pods": ["shop/busy", "shop/file"]}])
     _, trace, _ = recorded(script, 1)
     lines = [json.loads(line) for line in trace.splitlines()]
@@ -225,7 +225,7 @@ def test_taken_back():
 
 
 def test_ready_turns():
-    """The turns of a pod's condition Ready have the moments of its status; one that no list showed is told where the
+    """The turns of a pod's condition Ready have the moments of its status; one that no list showed is there where the
     next list has a later moment, and marked."""
     at = "2026-01-01T00:00:{:02}Z".format
     ready = [(0, "True", 0), (26.6, "False", 25), (28.2, "True", 28), (50, "True", 49)]
@@ -254,7 +254,7 @@ def test_turns_between():
 
 
 def test_moments_of_starts():
-    """What a kubelet's metrics say, and what is no moment."""
+    """What a kubelet's metrics have, and what is no moment."""
     for text, wanted in (("process_start_time_seconds 1.79607673395e+09\n", 1796076733),
                          ("a 1\nprocess_start_time_seconds 1796076733\n", 1796076733), ("", None),
                          ("process_start_time_seconds NaN\n", None), ("process_start_time_seconds -1\n", None),
@@ -295,7 +295,7 @@ def facts_of(trace):
 
 
 def test_real_start():
-    """Of a real kubelet that was started twice no pod is deleted or gone, each start of it is told, and each start,
+    """Of a real kubelet that was started twice no pod is deleted or gone, each start of it is there, and each start,
     exit, and change of Ready that it showed is in the trace within 2 s, at both polls."""
     with gzip.open(f"{REAL}/shown.gz", "rt", encoding="utf-8") as file:
         shown = [fact for fact in beside.facts_from(file.read()) if fact.what.split()[0] != "kill"]

@@ -21,7 +21,8 @@ def beside(folder):
 
 
 def test_lanes():
-    """Each state is that of an event, with the code by which an instance died, and each order and wait is there."""
+    """Each state is the state of an event, with the code by which an instance died, and each order and wait is
+    there."""
     report, trace = beside(REASONS)
     for pod in report.pods:
         found = lanes.lanes_of(pod, trace)

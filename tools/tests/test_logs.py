@@ -1,4 +1,4 @@
-"""The tests of the last lines of a container: what is kept of each, and what a recording tells of them with --logs."""
+"""The tests of the last lines of a container: what is kept of each, and what a recording has of them with --logs."""
 
 import json
 
@@ -39,7 +39,7 @@ def test_lines():
 
 
 def play():
-    """A container that dies with some lines, twice, one that ends well, and one of which the runtime says no line."""
+    """A container that dies with some lines, twice, one that ends well, and one of which the runtime gives no line."""
     wrote = [f"TOKEN={SECRET}", "", "Traceback (most recent call last):", f"ValueError: {SECRET}"]
     made = [{"id": "a0", "pod": "shop/web", "name": "app", "attempt": 0, "created": -3, "started": -2, "exited": 4.2,
              "code": 1, "reason": "Error", "wrote": wrote},
@@ -60,7 +60,7 @@ def log_in(trace):
 
 
 def test_recorded_lines():
-    """They stand once, with the exit, for a code that is not 0, and only where they are asked for."""
+    """They are there once, with the exit, for a code that is not 0, and only where they are asked for."""
     for words, wanted in (((), []), (("--logs", "20"), [
             (4, "shop/web", ["Traceback (most recent call last)", "ValueError"], 1), (12, "shop/web", None, 1)]),
             (("--logs", "1"), [(4, "shop/web", ["ValueError"], None), (12, "shop/web", None, 1)])):

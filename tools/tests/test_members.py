@@ -1,4 +1,4 @@
-"""The tests of what a recording says of a pod next to its listings: whether it is exempt, and members that the formats
+"""The tests of what a recording has of a pod next to its listings: whether it is exempt, and members that the formats
 do not read."""
 
 import json
@@ -31,7 +31,7 @@ def play_of(**pods):
 
 
 def recorded(play, *words):
-    """The lines of a recording of a play, by their kinds."""
+    """The lines of a recording of a script, by their kinds."""
     place = Into(play)
     status, trace, said = place.record(*words)
     place.clean()
@@ -54,7 +54,7 @@ CRITICAL = {
 
 
 def test_spared():
-    """Static pods, their copies and priorities of the system's are spared, in the extended format."""
+    """Static pods, their copies and pods of the system's priorities are exempt, in the extended format."""
     spared = {name: pods_of(json.dumps({"items": [{"metadata": {"name": name, **life}, **life,
                                                    "spec": {"containers": [], **life.get("spec", {})}}]}), "pods")[0]
               for name, life in CRITICAL.items()}
@@ -246,7 +246,7 @@ def test_resources_of_a_pod():
 
 
 def test_boot():
-    """Since when the system of the node runs, where the summary says it."""
+    """Since when the system of the node runs, where the summary has it."""
     place = Into(play_of(web={}))
     answer = json.loads(Play(f"{place.run}/play.json").summary(0))
     place.clean()

@@ -1,4 +1,4 @@
-"""The tests of record --metrics: what the file has of a play, and that its readers take it."""
+"""The tests of record --metrics: what the file has of a scripted node, and that its readers take it."""
 
 import json
 import os
@@ -70,8 +70,8 @@ def recorded():
 
 
 def test_metrics():
-    """By hand: two restarts of the one that crashes, and its last exit; a kill; an eviction; no series of what has
-    gone."""
+    """Counted manually: two restarts of the one that crashes, and its last exit; a kill; an eviction; no series of what
+    has gone."""
     text, answer, _, _ = recorded()
     expect("metrics: the recording", answer, (0, []))
     expect("metrics: restarts and kills", series_of(text, "restarts", "kills"), {
@@ -189,7 +189,7 @@ def test_alerts():
 
 
 def test_files_that_cannot_be():
-    """A file that can't be written is said once, and the recording goes on; another one is not replaced."""
+    """A file that can't be written is reported once, and the recording goes on; another one is not replaced."""
     place = Into(play())
     said = []
     metrics = Metrics(f"{place.run}/nowhere/it", lambda text, _: said.append(text))

@@ -85,8 +85,8 @@ INITS = [{"name": "proxy", "restartPolicy": "Always"}, {"name": "setup", "restar
 
 
 def test_recorded_rules():
-    """In the extended format a manifest has them; in the standard format they are left out, which is said. A sidecar
-    stays one."""
+    """In the extended format a manifest has them; in the standard format they are left out, and a line reports that. A
+    sidecar stays one."""
     other = {"name": "other", "restartPolicy": "Never", "restartPolicyRules": [{"action": "RestartAllContainers"}]}
     play = play_of(web={"spec": {"restartPolicy": "OnFailure", "initContainers": INITS, "containers": [OWN, other]}})
     lines, answer = recorded(play, "--extended", "--for", "5")

@@ -1,4 +1,4 @@
-"""The tests of tools/page: what a page is made of, what is refused, and pages driven in headless Chromium where that
+"""The tests of tools/page: what a page is made of, what is rejected, and pages driven in headless Chromium where that
 and python3-selenium are there."""
 
 import json
@@ -53,7 +53,7 @@ def test_page_is_one_file():
 
 
 def test_page_data():
-    """Of whys/probes, counted by hand."""
+    """Of whys/probes, counted manually."""
     data = data_in(page_of(read(f"{PROBES}/report"), f"{PROBES}/trace")[1])
     [pod] = data["podList"]
     expect("page: the span", (data["first"], data["last"], data["ticks"]), (0, 700, 14))
@@ -83,7 +83,7 @@ def test_page_tells_events_as_why_does():
 
 
 def told_in(data, pod):
-    """The events of a pod as decode.js tells them."""
+    """The events of a pod as decode.js writes them."""
     for number, (_, place, word, *rest) in enumerate(pod["events"]):
         fields, sentence = data["told"][data["words"][word]]
         why = f": {data['causes'][rest[4]][0]}" if len(rest) > 4 else ""
@@ -146,7 +146,7 @@ def test_refused_pages():
 
 def test_page_of_use():
     """What containers used, with the moments of the samples, once each, next to their bounds; nothing of a pod or a
-    trace that does not say it."""
+    trace that does not have it."""
     pods = {pod["key"]: pod for pod in data_in(page_of(read(f"{REBOOTED}/report"), f"{REBOOTED}/trace")[1])["podList"]}
     app, proxy = pods["shop/web"]["used"]
     expect("page: samples", (app["columns"], app["uses"]), (5, [
@@ -164,7 +164,7 @@ def test_page_of_use():
 
 
 def drawn_of(path, *words):
-    """What node draws and says of a page's story of a pod."""
+    """What node draws and prints of a page's story of a pod."""
     done = subprocess.run(["node", f"{HERE}/drawn.js", path, *words], capture_output=True, text=True, check=False,
                           timeout=LONGEST)
     expect(f"node draws {' '.join(words)[:40]}", (done.returncode, done.stderr), (0, ""))
@@ -173,7 +173,7 @@ def drawn_of(path, *words):
 
 def test_page_draws_use():
     """Next to the story of a pod, in both themes, the lines of its memory and processor time with request and limit,
-    and what is said where one points at them."""
+    and what a pointer at them shows."""
     if shutil.which("node") is None:
         print("left out: what a page draws of memory and processor time, since node is missing")
         return

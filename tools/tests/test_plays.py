@@ -1,4 +1,4 @@
-"""Plays made by chance, in each format: the trace is accepted, and it has each start and each exit with its code; in
+"""Random scripts of nodes, in each format: the trace is accepted, and it has each start and each exit with its code; in
 the extended format also each pod for as long as it was there, and none of what it ran dies by its going. And an hour of
 a quiet node, with its bytes."""
 
@@ -20,13 +20,13 @@ from replay_tools.traces import read_trace
 load_tests = cases.loaded(__name__)
 
 PLAYS = 32
-# how late a start or an exit may stand where all sources answer, as what shares a second is in those after it
+# how late a start or an exit may be where all sources answer, as what shares a second is in those after it
 LATEST = 5
 PODS_SECONDS = 10
 
 
 def recorded(play, *words):
-    """The status of a recording of a play, its trace, and what was said."""
+    """The status of a recording of a script, its trace, and the messages."""
     folder = tempfile.mkdtemp()
     with open(f"{folder}/play.json", "w", encoding="utf-8") as file:
         json.dump(play, file)
@@ -36,11 +36,11 @@ def recorded(play, *words):
     return answer
 
 
-# --- what a play did ---
+# --- what a scripted node did ---
 
 
 def lives_in(play):
-    """The lives of a play's pods by their uids, each with its name in `one_name_each`."""
+    """The lives of a script's pods by their uids, each with its name in `one_name_each`."""
     return {life["uid"]: {**life, "named": named(key, number)} for key, lives in play["pods"].items()
             for number, life in enumerate(lives)}
 
@@ -61,9 +61,9 @@ def last_moment(play, life, is_extended):
 
 
 def wanted_of(play, look, is_extended):
-    """What a recording has to say of the instances, but of the last seconds: {(pod, container, words): moment}."""
+    """What a recording has to have of the instances, but of the last seconds: {(pod, container, words): moment}."""
     wanted, lives = {}, lives_in(play)
-    # a runtime that is silent to the end has not said what happened meanwhile
+    # a runtime that is silent to the end has not shown what happened meanwhile
     silent = [fault["from"] for fault in play["fails"] if fault["kind"] == "ps" and fault["until"] > SECONDS - look]
     for each in play["containers"]:
         life = lives[each["uid"]]
@@ -76,7 +76,7 @@ def wanted_of(play, look, is_extended):
     return wanted
 
 
-# --- what a recording says ---
+# --- what a recording has ---
 
 
 def one_name_each(text):
@@ -97,7 +97,7 @@ def one_name_each(text):
 
 
 def report_of(text):
-    """The program's report of a trace, or why it is refused."""
+    """The program's report of a trace, or why it is rejected."""
     with tempfile.NamedTemporaryFile("w", suffix=".trace") as file:
         file.write(text)
         file.flush()
@@ -105,7 +105,8 @@ def report_of(text):
 
 
 def said_by_number(text):
-    """What a report says, as `said_in` has it, where several pods have one name: by what `read_report` makes of it."""
+    """What a report has, as `said_in` returns it, where several pods have one name: by what `read_report` makes of
+    it."""
     report = read_report(text)
     names = names_of(report)
     return {(names[event.number], event.container or "-", " ".join([event.word, *event.rest])): event.at - BEGIN
@@ -135,8 +136,8 @@ def names_of(found):
 
 
 def steps_of(trace, pod, container):
-    """What the ticks of a trace say of one container: its starts and its exits, as (words, moment). Those after the
-    tick with which the node has ended the pod are none of it."""
+    """What the ticks of a trace have of one container: its starts and its exits, as (words, moment). The ones after the
+    tick with which the node has ended the pod are left out."""
     before, started = None, set()
     last = trace.failed[pod.number].at if pod.number in trace.failed else trace.ticks[-1].at
     for place in range(pod.first, len(trace.ticks) if pod.gone is None else pod.gone):
@@ -164,7 +165,7 @@ def steps_in(trace):
 
 
 def missing_in(said, play, look, is_extended):
-    """What a recording does not say, or not when it happened; None where it says all."""
+    """What a recording lacks, or has at another moment than it happened; None where it has all."""
     for place, moment in wanted_of(play, look, is_extended).items():
         if place not in said:
             return f"there is no {' '.join(place)}"
@@ -233,7 +234,7 @@ def presence_fault(trace, play, look):
 
 
 def fault_of(seed):
-    """What is wrong with the recordings of one play, or None."""
+    """What is wrong with the recordings of one script, or None."""
     chance = random.Random(seed)
     look = chance.choice([1, 1, 1, 2, 5])
     play = play_of(chance, look)
@@ -282,7 +283,7 @@ def quiet_node(pods, seconds):
 
 
 def size_of(every):
-    """What an hour of a quiet node with 30 pods makes, as tools/README.md says it."""
+    """What an hour of a quiet node with 30 pods makes, as tools/README.md has it."""
     # some 8 s on a machine that does nothing else
     status, trace, said = recorded(quiet_node(30, 3600), "--for", "3600", "--every", str(every), "--standard")
     expect(f"an hour of a quiet node, every {every} s", (status, said), (0, ""))
@@ -343,8 +344,8 @@ def test_what_happens_in_slow_looks():
 
 
 def codes_of(answer):
-    """The status of a recording, what it says of codes that are lost, and each exit that it has: its attempt, its code
-    and the second at which it stands."""
+    """The status of a recording, its messages about codes that are lost, and each exit that it has: its attempt, its
+    code and the second at which it is."""
     (status, trace, said), found = answer, {}
     for tick in ticks_of(trace):
         for entry in tick["pods"]:

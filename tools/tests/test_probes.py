@@ -22,7 +22,7 @@ def found(growth, last, probe="liveness"):
 
 
 def test_order():
-    """What a probe found last stands first, since it goes on with it."""
+    """What a probe found last is first, since it goes on with it."""
     for growth, last, wanted in (({"success": 1, "failure": 1}, "success", "sf"),
                                  ({"success": 1, "failure": 1}, "failure", "fs"),
                                  ({"success": 2, "failure": 3, "unknown": 1}, "success", "ssfffu"),

@@ -1,4 +1,4 @@
-"""The tests of bench/real_node: what its run is compared with, what it keeps, and that it leaves nothing behind."""
+"""The tests of bench/real_node: what its run is compared with, what it keeps, and that it leaves nothing running."""
 
 import gzip
 import json
@@ -31,7 +31,7 @@ LATE = {("real_soft_run", "starts"): 1}
 PAGE = f"{TOP}/docs/real.md"
 KINDS = {"starts": "started", "exits": "died", "kills by a liveness probe": "kill", "ready": "ready",
          "unready": "unready"}
-# between the order of the replay and the kubelet's kill, in both runs: docs/real.md and docs/profile.md say it
+# between the order of the replay and the kubelet's kill, in both runs, as docs/real.md and docs/profile.md have it
 STARTUP_SECONDS = (45, 71)
 
 
@@ -56,7 +56,7 @@ def test_real_node():
 
 
 def test_real_counts():
-    """The counts of the second run that docs/real.md says are those of the recording."""
+    """The counts of the second run in docs/real.md are the counts of the recording."""
     pairs, left = beside.paired(recorded_facts(), beside.report_facts(read(f"{RECORDING}/report")))
     # the first table of the page; the second one is of other runs
     table = read(PAGE).partition("| unready |")
@@ -102,7 +102,7 @@ def counted_anew(recording):
 
 def test_real_evictions():
     """What a kubelet did whose pods came by an API server is counted again, as docs/real.md has it: each start and exit
-    is in the report, each eviction is told, and nobody else is ended."""
+    is in the report, each eviction is there, and nobody else is ended."""
     for name in KEPT_RUNS:
         rows, ordered, codes = counted_anew(f"{HERE}/recordings/{name}")
         expect(f"{name}: false codes", codes, [])
@@ -112,14 +112,14 @@ def test_real_evictions():
         expect_kept(f"{name}: the counts in docs", f"{before}<!-- the counts of {name} -->\n```\n{table}\n```\n"
                     f"<!-- end of the counts -->\n{after}", PAGE)
         by_name = {row.name: row for row in rows}
-        for kind in ("starts", "exits with their codes", "evictions told as a fact", "pods ended as evicted"):
+        for kind in ("starts", "exits with their codes", "evictions shown as a fact", "pods ended as evicted"):
             row = by_name[kind]
             expect(f"{name}: {kind}", (row.near, row.false), (row.real - LATE.get((name, kind), 0), 0))
 
 
 def test_real_rounds():
-    """Each round of the kubelet's log has a sync tick, within a second of its sample, and no other tick is judged but
-    the first one. The log is that of a run with a grace period, whose rounds are in a file."""
+    """Each round of the kubelet's log has a sync tick, within a second of its sample, and of the other ticks only the
+    first one is one. The log comes from a run with a grace period, whose rounds are in a file."""
     recording = f"{HERE}/recordings/real_soft_run"
     folder, _, path = played(recording)
     ticks = [json.loads(line) for line in read(path).splitlines() if '"kind":"tick"' in line]
@@ -173,7 +173,7 @@ def test_captured_kubelet():
 
 
 def test_trimmed_answers():
-    """A look has the answers that are others than before, without the fields that the recorder does not read."""
+    """A poll has the answers that are others than before, without the fields that the recorder does not read."""
     states = {"lastState": {"terminated": {"exitCode": 1, "reason": "Error", "message": "its own words"}},
               "state": {"waiting": {"reason": "CrashLoopBackOff", "message": "back-off 10s", "more": 1}}}
     gate = {"type": "balancer", "status": "True"}
@@ -220,11 +220,11 @@ def test_trimmed_answers():
            [{"at": 2.0, "answers": {}}, {"at": 3.0, "answers": {"ps": {"failed": "no answer"}}}])
 
 
-# --- what a run leaves behind ---
+# --- what a run leaves ---
 
 
 def test_mounts():
-    """The mounts that a run made are found by where they are, the newest first; those of before are not its own."""
+    """The mounts that a run made are found by where they are, the newest first; earlier ones are not its own."""
     before = ending.mount_points("25 1 0:5 / /run rw - tmpfs none rw\n26 25 0:6 / /work/old rw - tmpfs none rw\n")
     now = ending.mount_points("25 1 0:5 / /run rw - tmpfs none rw\n26 25 0:6 / /work/old rw - tmpfs none rw\n"
                               "27 25 0:7 / /work/old rw - tmpfs none rw\n28 25 0:8 / /workshop rw - tmpfs none rw\n"
@@ -266,8 +266,8 @@ def is_there(identity):
 
 
 def interrupted(folder, numbers, **settings):
-    """Interrupts a run where it waits; its status and what it said last."""
-    words = [sys.executable, f"{TOP}/bench/real_node", folder]
+    """Interrupts a run where it waits; its status and its last message."""
+    words = [sys.executable, f"{TOP}/bench/try", "real_node", folder]
     process = subprocess.Popen(words, stdout=subprocess.PIPE, stderr=subprocess.PIPE, text=True, env={
         **os.environ, "PATH": f"{os.environ['PATH']}:{folder}/host", "KUBELET_REPLAY": REPLAY, **settings})
     wait_until("what waits", lambda: os.path.exists(f"{folder}/waits"))
@@ -289,7 +289,7 @@ def test_ends():
                                     ("while it builds", [signal.SIGHUP], {"WAITS": "go"})):
         folder = made_folder()
         answer = interrupted(folder, numbers, **settings)
-        expect(f"bench/real_node interrupted {name}", answer, (1, f"real_node: ended by {numbers[0].name}"))
+        expect(f"bench/real_node interrupted {name}", answer, (1, f"bench/try real_node: ended by {numbers[0].name}"))
         started = read(f"{folder}/pids").split()
         expect(f"bench/real_node interrupted {name}: its processes", len(started), 1 if settings else 3)
         expect(f"bench/real_node interrupted {name}: those that are left", list(filter(is_there, started)), [])

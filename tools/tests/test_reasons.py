@@ -1,4 +1,4 @@
-"""The tests of why instances died and containers waited: of recordings that say it, and of reports alone."""
+"""The tests of why instances died and containers waited: of recordings that have it, and of reports alone."""
 
 import json
 import os
@@ -60,7 +60,7 @@ def test_recorded_example():
 
 
 def test_stories_of_reasons():
-    """What is told of each pod: with the trace why it died and waited, and without it no more than is known."""
+    """What is shown of each pod: with the trace why it died and waited, and without it no more than is known."""
     for name, words in (("reasons_list", ["--trace", f"{PLAYED}/trace"]), ("reasons_list_alone", [])):
         status, told, said = played("story", *words)
         expect(f"story: {name}", (status, said), (0, ""))

@@ -1,4 +1,4 @@
-"""The tests of tools/record: what it makes of answers that were captured, played or written, and of words."""
+"""The tests of tools/record: what it makes of answers that were captured, scripted or written, and of words."""
 
 import gzip
 import json
@@ -35,7 +35,7 @@ PLACED = re.compile(r" \(\w+, \w+\.py:\d+\)$")
 
 
 class Recorder:
-    """A run of tools/record over recorded answers, by a clock that is played, or by the node's."""
+    """A run of tools/record over recorded answers, by a clock that the test sets, or by the node's."""
 
     def __init__(self, name, tool=f"{COMMANDS}/played_record", **settings):
         self.tool = tool
@@ -166,7 +166,7 @@ def test_odd_answers():
 
 
 def test_check():
-    """--check says of each source whether it works, and what it wants where it does not."""
+    """--check shows for each source whether it works, and what it needs where it does not."""
     for name, recording, status in (("all", "crash_loop", 0), ("forbidden", "first_scrape_fails", 1),
                                     ("silent", "failed_scrape", 1)):
         recorder = Recorder(recording)
@@ -202,7 +202,7 @@ def test_check_without_a_command():
 
 
 def test_nothing_told():
-    """What a manifest tells its containers stays on the node."""
+    """What a manifest gives its containers stays on the node."""
     for name in ("crash_loop", "whole_node"):
         trace, pods = read(f"{RECORDINGS}/{name}/trace"), read(f"{RECORDINGS}/{name}/1/pods.json")
         expect(f"{name}: no environment in the trace", ("secret" in pods, "secret" in trace), (True, False))
@@ -243,7 +243,7 @@ def test_limits():
 
 
 def ended(process, name):
-    """What a process that was interrupted leaves: its status, whether its last line is whole, what it said."""
+    """What a process that was interrupted leaves: its status, whether its last line is whole, its messages."""
     try:
         out, said = process.communicate(timeout=LONGEST)
     except subprocess.TimeoutExpired:

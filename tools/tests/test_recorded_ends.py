@@ -1,5 +1,6 @@
-"""The tests of how a recording tells pods that failed without a reason, that were not admitted, and that wait or end
-for a reason that a kubelet writes with its message; of samples of 0; and of readiness that the kubelet does not count."""
+"""The tests of how a recording shows pods that failed without a reason, that were not admitted, and that wait or end
+for a reason that a kubelet writes with its message; of samples of 0; and of readiness that the kubelet does not
+count."""
 
 import json
 
@@ -62,7 +63,7 @@ def test_failed_without_reason():
         expect(f"failed without a reason: {spec} {metadata}", pod.ended and (pod.ended.word, pod.ended.is_guessed),
                wanted and (wanted, True))
     for look in ("1", "5"):
-        # shown as evicted for less than a look, and then without why
+        # shown as evicted for less than a poll, and then without a reason
         script = play(says=[{"from": 21, "status": {"phase": "Failed", "reason": None, "containerStatuses": []}}])
         status, trace, _ = recorded(script, *URL, "--look", look)
         expect(f"failed without a reason, --look {look}", (status, words_of(trace, "failed")),
@@ -87,7 +88,7 @@ def test_reason_by_an_event():
 
 
 def test_not_admitted():
-    """A kubelet that does not admit a pod refuses it, at the moment at which it took it."""
+    """A kubelet that does not admit a pod rejects it at the moment at which it took it."""
     lack = "Pod Node didn't have enough resource: cpu, requested: 100000, used: 3400, capacity: 4000"
     for reason, message, kind in (("OutOfcpu", lack, "refused"), ("OutOfpods", "", "refused"),
                                   ("NodeAffinity", "Predicate NodeAffinity failed", "refused"),
@@ -104,7 +105,7 @@ def test_not_admitted():
         end = end_of({**status, "containerStatuses": [{"name": "app"}]}, True, BEGIN + 9)
         expect(f"not admitted again: {reason} {message[:30]}", (end.kind, end.moment),
                (kind, BEGIN + 9 if kind == "refused" else None))
-    # it is listed before its status says so
+    # it is listed before its status has that
     says = [{"from": 16, "status": {"phase": "Failed", "reason": "OutOfcpu", "message": lack, "startTime": AT(10)}}]
     script = {**play(), "containers": [container("shop/other", "b0")]}
     script["pods"]["shop/web"].update({"from": 9.5, "says": says})
@@ -131,7 +132,7 @@ def test_reason_with_its_message():
 
 
 def test_wait_for_a_second():
-    """What a status shows for a second after an exit is told, also where the recorder looks each 5 s."""
+    """What a status shows for a second after an exit is recorded, also where the recorder polls each 5 s."""
     for look in ("1", "5"):
         script = play(waits=[{"container": "app", "from": 20.5, "until": 21.4, "count": 0, "reason": HOOK},
                              {"container": "app", "from": 21.4, "count": 0, "reason": "CrashLoopBackOff"}])
@@ -197,7 +198,7 @@ def test_ready_by_status():
 
 
 def test_runtime_alone():
-    """Of the runtime alone no manifest is known, and each pod line says so."""
+    """Of the runtime alone no manifest is known, and each pod line has that."""
     listed = json.dumps({"containers": [{
         "id": "a0", "metadata": {"name": "app"}, "state": "CONTAINER_RUNNING", "createdAt": "1",
         "labels": {f"io.kubernetes.{name}": value for name, value in (

@@ -218,7 +218,7 @@ def test_requests_of_a_resized_pod():
 
 
 def test_resizes_that_are_none():
-    """Of what says nothing no tool prints a resize; what the program rejects is no line of a trace."""
+    """Where a value means nothing no tool prints a resize; what the program rejects is no line of a trace."""
     for name, said in (("null", None), ("empty", {}), ("null of a name", {"app": None}), ("the same", {"app": {
             "requests": {"memory": "104857600"}, "limits": {"cpu": "1.5"}}}), ("a stranger", {"ap": {}}),
             ("other resources", {"app": {"requests": {"memory": "100Mi", "example.com/gpu": 7}, "limits": {

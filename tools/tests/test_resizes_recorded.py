@@ -27,7 +27,7 @@ def resized_in(lines, key="shop/web"):
 
 
 def resized_play(*resizes_of, app=None, **spec):
-    """A play of a pod whose containers have other resources from some moments on."""
+    """A script of a pod whose containers have other resources from some moments on."""
     containers = [{"name": "app", "resources": SMALL if app is None else app}, {"name": "other"}]
     return play_of(web={"spec": {"containers": containers, **spec},
                         "resized": [{"from": at, "resources": each} for at, each in resizes_of]})

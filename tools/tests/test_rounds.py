@@ -1,4 +1,4 @@
-"""The tests of the rounds of a kubelet's eviction manager: which samples are rounds, and what a recording says of
+"""The tests of the rounds of a kubelet's eviction manager: which samples are rounds, and what a recording has of
 them."""
 
 import json
@@ -70,8 +70,8 @@ def test_rounds_that_evictions_show():
 
 
 def test_last_eviction_of_a_series():
-    """The round of the last eviction is judged, though the next sample is long after it, and so is that of a pod that
-    takes long to end; the eviction is told at the moment of its sample, whichever look shows it."""
+    """The round of the last eviction is in a sync tick, though the next sample is long after it, and so is the round of
+    a pod that takes long to end; the eviction has the moment of its sample, whichever poll shows it."""
     hard = {"evictionHard": {"memory.available": "100Mi"}}
     samples = {-1: 4096, 20: 90, 25: 80, 45: 4096}
     play = low_play(samples={str(at): {"memory": value * 2 ** 20, "pods": {}} for at, value in samples.items()},
@@ -112,7 +112,8 @@ def judged_in(trace):
 
 
 def test_rounds_of_a_play():
-    """Of a play in which the kubelet evicts two pods, each by a sample of its own: the first tick, and each sample."""
+    """Of a script in which the kubelet evicts two pods, each by a sample of its own: the first tick, and each
+    sample."""
     trace = read(f"{HERE}/recordings/kubelet_evicts_extended/trace")
     expect("judged ticks of a play", judged_in(trace)[0], [0, 7, 10, 13, 15])
     expect("judged: none is said in the standard format",
@@ -130,7 +131,7 @@ def test_rounds_over_a_border():
 
 
 def judged_behind_an_eviction(samples, **configz):
-    """The sync ticks of a play whose kubelet evicts a pod at 21, by samples of the memory."""
+    """The sync ticks of a script whose kubelet evicts a pod at 21, by samples of the memory."""
     play = low_play(samples={str(at): {"memory": value * 2 ** 20, "pods": {}} for at, value in samples.items()},
                     configz=configz)
     play["pods"]["shop/hog"] = {"evicted": 21, "spec": {"containers": [{"name": "app"}]}}
@@ -143,8 +144,8 @@ def judged_behind_an_eviction(samples, **configz):
 
 
 def test_samples_in_a_wait():
-    """Behind an eviction a sample that is low enough for one is a round only if another follows soon; one that is not
-    is a round in any case, a reclaim included while that goes on."""
+    """After an eviction a sample that is low enough for one is a round only if another follows soon; one that is not is
+    a round in any case, a reclaim included while that goes on."""
     hard = {"evictionHard": {"memory.available": "100Mi"}}
     reclaim = {**hard, "evictionMinimumReclaim": {"memory.available": "60Mi"}}
     samples = {-1: 4096, 20: 90, 29: 150, 38: 90, 50: 4096}
@@ -156,7 +157,7 @@ def test_samples_in_a_wait():
 
 
 def test_grace_within_a_wait():
-    """Behind an eviction no pod is evicted while a grace period runs, so that a low sample is a round then."""
+    """After an eviction no pod is evicted while a grace period runs, so that a low sample is a round then."""
     soft = {"evictionHard": {"memory.available": "10Mi"}, "evictionSoft": {"memory.available": "100Mi"},
             "evictionSoftGracePeriod": {"memory.available": "15s"}}
     expect("rounds within a grace period",
@@ -177,7 +178,7 @@ def low_play(**more):
 
 
 def test_summary_between_looks():
-    """Near a threshold the summary is asked each second, though a look comes each ten."""
+    """Near a threshold the summary is asked each second, though a poll comes each ten."""
     for look, wanted in (("10", [0, 9, 20, 23, 26, 29, 33]), ("1", [0, 9, 20, 23, 26, 29, 33])):
         place = Into(low_play())
         status, trace, said = place.record("--extended", "--look", look, "--for", "50")
@@ -197,7 +198,7 @@ def test_pause_and_rounds():
 
 def test_evictions_recorded():
     """The node line of the extended format shows that the ticks end whom the kubelet evicted, but with --simulate; one
-    that is given has what it says itself."""
+    that is given has its own members."""
     for words, wanted in (((), None), (("--extended",), True), (("--extended", "--simulate"), None),
                           (("--extended", "--eviction-pause", "5", "--simulate"), None)):
         place = Into(low_play())

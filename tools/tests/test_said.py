@@ -1,5 +1,5 @@
-"""The tests of what is told of what the kubelet said: next to a kill by a probe, and by its moment; of traces out of a
-journal and of recordings with Events."""
+"""The tests of how the tools show what the kubelet reported: next to a kill by a probe, and by its moment; of traces
+from a journal and of recordings with Events."""
 
 import json
 import re
@@ -37,7 +37,7 @@ def trace_with(said, folder):
 
 
 def told_of(said, tool):
-    """What a tool tells of the example with that."""
+    """What a tool prints of the example with that."""
     with tempfile.TemporaryDirectory() as folder:
         status, told, faults = run([f"{TOOLS}/{tool}", "shop/web-0", "--trace", trace_with(said, folder)],
                                    read(f"{EXAMPLE}.report"))
@@ -90,7 +90,8 @@ def test_page_of_what_was_said():
 
 
 def test_picture_of_what_was_said():
-    """A mark below the lane of its container, or below that of Ready, with its words; and next to the kill order."""
+    """A mark below the lane of its container, or below the lane of Ready, with its words; and next to the kill
+    order."""
     picture = drawn_of(OF_JOURNAL | OF_POD, "timeline", "--trace")
     xml.dom.minidom.parseString(picture)
     titles = re.findall(r"<title>(.*?)</title>", picture)

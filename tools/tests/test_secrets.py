@@ -1,4 +1,5 @@
-"""The tests of what a trace keeps of messages: no word of a pod that its manifest, its containers or a registry said."""
+"""The tests of what a trace keeps of messages: no word of a pod that comes from its manifest, its containers or a
+registry."""
 
 import json
 import re
@@ -63,7 +64,7 @@ def test_kept_parts():
 
 
 def test_odd_messages():
-    """What is no text, or no word, says no more than that it is there."""
+    """What is no text, or no word, shows no more than that it is there."""
     for said, word, is_left_out in (
             ({"reason": "Error", "message": 5}, "Error", False), ({"reason": "a b", "message": "x"}, "Other", True),
             ({"reason": f"A{SECRET}" * 20}, "Other", False), ({"reason": "Error", "message": " \n"}, "Error", False)):

@@ -98,7 +98,7 @@ def test_a_clock_that_went_back():
 
 
 def test_commands_that_fail():
-    """It is said and done again later, and the next one waits; a command that is not there, too."""
+    """It is reported and done again later, and the next one waits; a command that is not there, too."""
     place = Place()
     shipping = place.shipping(*script(f'test -e {place.taken}/now || {{ echo "no \x1b[31mway" >&2; exit 3; }}; '
                                       f'cp "$1" {place.taken}'))
@@ -121,7 +121,8 @@ def test_commands_that_fail():
 
 
 def test_commands_that_hang():
-    """One that goes on for too long is ended, with what it has started; no look waits for it, however much it says."""
+    """One that goes on for too long is ended, with what it has started; no poll waits for it, however much it
+    prints."""
     place = Place()
     shipping = place.shipping(*script(f"echo $$ > {place.taken}/pid; yes >&2"))
     longest = place.look_until(shipping, lambda: os.path.exists(f"{place.taken}/pid") and len(shipping.said) > 4000)
@@ -139,7 +140,7 @@ def test_commands_that_hang():
 
 
 def test_end():
-    """At the end what runs has some seconds, and what is left is said."""
+    """At the end what runs has some seconds, and what is left is reported."""
     place = Place()
     shipping = place.shipping(*script("sleep 1000"))
     shipping.look()

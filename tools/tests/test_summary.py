@@ -1,5 +1,5 @@
-"""The tests of what a pod came to: story, page, why, json and fleet say the same of each pod of one trace and rank it
-the same, and tell the words by which pods are deleted, ended and named. The trace and its report are by hand."""
+"""The tests of what a pod came to: story, page, why, json and fleet show the same of each pod of one trace and rank it
+the same, and have the words by which pods are deleted, ended and named. The trace and its report are handwritten."""
 
 import contextlib
 import importlib
@@ -70,7 +70,7 @@ def fleet_of_it(*words):
 
 
 def story_of(trace, report, *words):
-    """What story tells of a trace and a report that are given as texts."""
+    """What story prints of a trace and a report that are given as texts."""
     with tempfile.NamedTemporaryFile("w", suffix=".trace") as file:
         file.write(trace)
         file.flush()
@@ -78,7 +78,7 @@ def story_of(trace, report, *words):
 
 
 def test_all_say_the_same():
-    """Of one trace, next to what was counted by hand."""
+    """Of one trace, next to what was counted manually."""
     listed = told_by("story", "--trace", TRACE).splitlines()
     expect("story: the list", [re.split(r" {2,}", line.strip()) for line in listed[2:]],
            [[key, {"shop/hog": "Failed", "shop/late": "Failed"}.get(key, "Running"), str(restarts), str(unready),
@@ -182,8 +182,8 @@ def test_words_are_told():
 
 
 def test_why_of_names():
-    """A naming is told as an eviction is, with its table, in which spared pods are none; those of the next minute are
-    not told once more."""
+    """A naming is shown as an eviction is, with its table, in which exempt pods are none; the ones of the next minute
+    are not shown once more."""
     told = told_by("why", "named", "--trace", TRACE)
     heads = re.findall(r"^\d+  (.*)$", told, re.M)
     expect("why: namings", heads[3:], ["the rules name it: memory.available hard"] * 2)
@@ -209,8 +209,8 @@ def test_unjudged_samples():
 
 
 def test_words_that_a_program_passes_over():
-    """A program that heeds neither which pods are spared nor which ticks are judged names a pod that is exempt, at a
-    tick that is not judged, and the pod is in the table."""
+    """A program that ignores which pods are exempt and which ticks are sync ticks names a pod that is exempt, at a tick
+    that is no sync tick, and the pod is in the table."""
     trace = ('{"kind":"node","name":"n1","version":3,"evictionHard":{"memory.available":"100Mi"},'
              '"recordsKubelet":true,"evictionsRecorded":true}\n'
              '{"kind":"pod","spared":true,"pod":{"metadata":{"name":"a"},"spec":{"containers":[{"name":"c"}]}}}\n'
@@ -228,7 +228,7 @@ def test_words_that_a_program_passes_over():
 
 
 def test_a_code_that_was_guessed():
-    """It is told as unknown wherever a code is told, and is null where a value is needed."""
+    """It is shown as unknown wherever a code is shown, and is null where a value is needed."""
     told = told_by("story", "guessed", "--trace", TRACE)
     expect("story: a guessed code", re.findall(r"  (died.*unknown)", told),
            ["died, code unknown", "died at 1767225614, code unknown"])
@@ -244,7 +244,7 @@ def test_a_code_that_was_guessed():
 
 
 def test_odd_words():
-    """What has another shape shows nothing: the program refuses some of it, and reads the rest of it not at all."""
+    """What has another shape shows nothing: the program rejects some of it, and reads the rest of it not at all."""
     node = ('{"kind":"node","name":"n1","version":3}\n'
             '{"kind":"pod","pod":{"metadata":{"name":"a"},"spec":{"containers":[{"name":"app"}]}}}\n')
     for odd in (5, None, [], "", "1st", "a b", "x" * 64, {"reason": "Evicted"}):
@@ -259,7 +259,7 @@ def test_odd_words():
 
 
 def test_of_own_limits():
-    """An eviction for a limit of the pod's own is told as that."""
+    """An eviction for a limit of the pod's own is shown as such."""
     said = r'Usage of EmptyDir volume \\"work\\" exceeds the limit \\"1Gi\\". '
     text = re.sub("The node was low on resource: [^\"]*", said, read(TRACE))
     report = read(REPORT).replace(f"event {BEGIN + 20} node names shop/hog memory.available hard\n", "")
@@ -270,7 +270,7 @@ def test_of_own_limits():
 
 
 def test_pods_that_the_rules_evict():
-    """Where no trace shows what the kubelet did the rules' evictions stand first, else behind what happened."""
+    """Where no trace shows what the kubelet did the rules' evictions are first, else after what happened."""
     report = reports.read_report(read(f"{TOP}/examples/memory_pressure.report"))
     ranked = summary.summaries(report)
     expect("the rules alone, without a trace", [(each.number, each.found.worst.value) for each in ranked],
@@ -315,7 +315,7 @@ def test_counts_since_a_moment():
 
 
 def test_readiness_gates():
-    """A gate that is not true is told, in the list where nothing else is, and next to the conditions of the report."""
+    """A gate that is not true is shown, in the list where nothing else is, and next to the conditions of the report."""
     text = read(TRACE).replace('{"pod":"shop/calm",', '{"pod":"shop/calm","readinessGates":{"target-health":false},')
     told = story_of(text, read(REPORT))
     [line] = [line for line in told.splitlines() if "shop/calm" in line]
@@ -329,8 +329,8 @@ def test_readiness_gates():
 
 
 def test_memory_of_a_death():
-    """The limit is that which the container had by then, else the manifest's, else that of the pod; next to it stands
-    what it used, and below it what it wrote last."""
+    """The limit is the one that the container had by then, else the manifest's, else the pod's; next to it is what it
+    used, and below it what it wrote last."""
     died = '"exitCode":2,"reason":"Error"'
     used = '"exitCode":2,"reason":"OOMKilled","used":{"workingSet":66060288,"age":4},"log":["first","a \\u001b[31mred"]'
     plain = read(TRACE).replace(died, used)

@@ -118,7 +118,7 @@ module = types.ModuleType("module")
 vars(module).update({name: value for name, value in list(globals().items()) if name.startswith("test_")})
 sys.exit(run.main(words, [module]))
 """
-# a module as those of the tests, of which unittest runs one test by its name
+# a module as the tests' modules are, of which unittest runs one test by its name
 OF_UNITTEST = """
 import cases
 from checks import expect
@@ -188,7 +188,7 @@ class Room:
         return process.returncode, told.splitlines(), said
 
     def is_left(self, name):
-        """Whether what a test has started is there; it is not told before that."""
+        """Whether what a test has started is still there."""
         return is_there(read(f"{self.path}/left/{name}"))
 
     def clean(self):
@@ -197,7 +197,7 @@ class Room:
 
 
 def test_that_a_crash_ends_alone():
-    """A test that ends its process fails, what it counted before counts, what it has started ends, and the tests behind
+    """A test that ends its process fails, what it counted before counts, what it has started ends, and the tests after
     it run; so does what one that passes has left."""
     for jobs in ("1", "3"):
         room = Room()
@@ -268,7 +268,7 @@ def test_a_run_in_the_background():
 
 
 def test_words_of_the_run():
-    """Words that there are not are refused, and names that no test has; those that run first are tests."""
+    """Words that there are not are rejected, and names that no test has; the ones that run first are tests."""
     for words, said in ((["--jobs", "0"], "it takes a whole number from 1 on"), (["--jobs", "x"], "it takes a whole"),
                         (["--write", "--without-program"], "not allowed with"), (["--all"], "unrecognized"),
                         (["test_of_nothing"], "there is no test with test_of_nothing in its name")):
@@ -281,7 +281,7 @@ def test_words_of_the_run():
 
 
 def test_of_unittest():
-    """Each test is one of unittest's, which runs one by its name, and each check that fails is told."""
+    """Each test is one of unittest's, which runs one by its name, and each check that fails is reported."""
     with tempfile.TemporaryDirectory() as folder:
         with open(f"{folder}/test_made.py", "w", encoding="utf-8") as file:
             file.write(OF_UNITTEST)

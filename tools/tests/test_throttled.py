@@ -144,7 +144,7 @@ class Asked(Throttling):
 
 
 def test_when_it_is_asked():
-    """Once in ten seconds; more seldom where it takes long or does not come, which is said once."""
+    """Once in ten seconds; more seldom where it takes long or does not come, which is reported once."""
     asked = Asked(line())
     expect("asked", (asked.looks(0, 60), asked.said), ((6, {ID: APP}), []))
     expect("asked as the clock goes back", asked.looks(10, 11), (1, {ID: APP}))
@@ -174,7 +174,7 @@ LIMITED = {"limits": {"cpu": "500m"}}
 
 
 def played(limits, throttling, containers=None, **others):
-    """A play of a pod of one container that ran out of memory once, with what cAdvisor has of it."""
+    """A script of a pod of one container that ran out of memory once, with what cAdvisor has of it."""
     made = containers or [
         {"id": "a0", "attempt": 0, "created": -3, "started": -2, "exited": 33.4, "code": 137, "reason": "OOMKilled"},
         {"id": "a1", "attempt": 1, "created": 34, "started": 34.4}]
@@ -308,7 +308,7 @@ def never(handler):
 
 
 def recorded_until(words, settings, is_over):
-    """Records until something holds of what is written and said; the status and what was said."""
+    """Records until something holds of what is written and reported; the status and the messages."""
     paths = [f"{settings['RUN']}/{name}" for name in ("trace", "said")]
     with open(paths[0], "wb") as trace, open(paths[1], "wb") as said:
         process = subprocess.Popen([*words, "--extended"], stdout=trace, stderr=said, env={**os.environ, **settings})
@@ -318,7 +318,7 @@ def recorded_until(words, settings, is_over):
 
 
 class OfKubelet:
-    """A recorder next to a kubelet that says this of throttling."""
+    """A recorder next to a kubelet that gives this of throttling."""
 
     def __init__(self, other):
         self.place = Place()
@@ -331,7 +331,7 @@ class OfKubelet:
         self.words = [f"{TOOLS}/record", "--node", "worker-3", "--kubelet", self.kubelet.url, "--curl", curl]
 
     def record(self, is_over):
-        """Records until something holds of what it has written and said; its status and what it said."""
+        """Records until something holds of what it has written and reported; its status and its messages."""
         self.kubelet.paths.clear()
         return recorded_until(self.words, self.place.settings, is_over)
 
@@ -344,7 +344,7 @@ class OfKubelet:
         return paths["/metrics/probes"] >= self.seen + count
 
     def check(self, *words):
-        """What --check says of it."""
+        """What --check prints of it."""
         status, told, said = run([*self.words, "--check", *words], **self.place.settings)
         return status, said, [each for each in told.splitlines() if PATH in each]
 
@@ -354,7 +354,7 @@ class OfKubelet:
 
 
 def test_of_a_kubelet():
-    """A kubelet's answers, as they may come, are recorded or said once, and all else is recorded."""
+    """A kubelet's answers, as they may come, are recorded or reported once, and all else is recorded."""
     if not has_openssl():
         return
     body = OTHER * 3000 + of_the_server().encode()

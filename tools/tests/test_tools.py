@@ -42,7 +42,7 @@ def test_stories():
 
 
 def test_overviews():
-    """Without a pod the pods are listed, and those of a namespace, the worst first."""
+    """Without a pod the pods are listed, and the pods of a namespace, the worst first."""
     for name, words, path in (("whole_node", ["--utc"], f"{RECORDINGS}/whole_node/report"),
                               ("came_again", [], f"{HERE}/lines/came_again.report"),
                               ("memory_pressure", [], f"{TOP}/examples/memory_pressure.report")):
@@ -250,7 +250,7 @@ def test_refused_edits():
 
 
 def test_edits_of_what_is_not_there():
-    """A pod or a container that the trace has not is refused with the nearest names."""
+    """A pod or a container that the trace has not is rejected with the nearest names."""
     trace = read(f"{RECORDINGS}/whole_node/trace")
     for edit, said in (
         ('pod("shop/wab"; .spec.priority = 1)', "the trace has no pod shop/wab; the nearest: shop/web"),
@@ -343,7 +343,7 @@ def test_a_folder_as_standard_input():
 
 
 def test_full_disks():
-    """What does not fit is said, also where Python is told not to buffer; a limit of a file's size is the full disk."""
+    """What does not fit is reported, also where Python does not buffer; a limit of a file's size is the full disk."""
     report, folder = f"{TOP}/examples/liveness_kill.report", tempfile.mkdtemp()
     for words in ("story shop/web-0", "timeline", "page", "json", "kubectl-replay json",
                   f"why shop/web-0 --trace {TOP}/examples/liveness_kill.trace"):
@@ -355,7 +355,7 @@ def test_full_disks():
 
 
 def test_versions():
-    """Each tool says its version, that a checkout has more than a release, and its help by its short name too."""
+    """Each tool prints its version, that a checkout has more than a release, and its help by its short name too."""
     version, more = read(f"{TOP}/VERSION"), ", and what is not released yet"
     if "\n## Not released yet" in read(f"{TOP}/CHANGELOG.md"):
         version = version.replace("\n", f"{more}\n")

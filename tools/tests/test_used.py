@@ -1,4 +1,4 @@
-"""The tests of what containers use, next to what a recording lists of them: when it is told, of which instance, and
+"""The tests of what containers use, next to what a recording lists of them: when it is recorded, of which instance, and
 how much a recording grows by it."""
 
 import json
@@ -18,7 +18,7 @@ BEGIN = 1767225600
 
 
 def recorded(play, *words):
-    """A recording of a play, and its answer."""
+    """A recording of a script, and its answer."""
     place = Into(play)
     status, trace, said = place.record(*words)
     place.clean()
@@ -26,7 +26,7 @@ def recorded(play, *words):
 
 
 def ticks_of(play, *words):
-    """The ticks of a recording of a play, and its answer."""
+    """The ticks of a recording of a script, and its answer."""
     trace, answer = recorded(play, *words)
     lines = [json.loads(line) for line in trace.splitlines()]
     return [line for line in lines if line["kind"] == "tick"], answer
@@ -60,8 +60,8 @@ LEAK = play_of(
 
 
 def test_used():
-    """Each ten seconds, and once more as an instance exits, of it alone: one of before its start is not its own. Where
-    the tick of a start says an exit too, it is with that."""
+    """Each ten seconds, and once more as an instance exits, of it alone: a sample from before its start is not its own.
+    Where the tick of a start has an exit too, it is with that."""
     ticks, answer = ticks_of(LEAK, "--extended", "--for", "60")
     expect("used: all is recorded", answer, (0, ""))
     expect("used: when", used_in(ticks), [

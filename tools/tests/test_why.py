@@ -1,4 +1,4 @@
-"""The tests of tools/why, and of tools/story with a trace: traces with their reports and what is told of a pod."""
+"""The tests of tools/why, and of tools/story with a trace: traces with their reports and what is shown of a pod."""
 
 import glob
 import json
@@ -70,7 +70,7 @@ def in_a_row(runs, result):
 
 
 def doubts_of(around):
-    """What the results of an event do not have, though the event says so."""
+    """What the results of an event do not have, though the event has it."""
     wanted = {"kill": "failure", "unready": "failure", "ready": "success"}.get(around.event.word)
     for results in around.results:
         most = results.probe.success_threshold if wanted == "success" else results.probe.failure_threshold
@@ -118,7 +118,7 @@ NOT_READY = f"the node was NotReady from {BEGIN + 12} to {BEGIN + 24}: NodeStatu
 
 
 def told_of(tool, *words, folder=None):
-    """The lines that a tool tells of the trace of a node that was rebooted, or of those of a folder."""
+    """The lines that a tool prints of the trace of a node that was rebooted, or of the traces of a folder."""
     given = ["--traces", folder] if folder else ["--trace", f"{REBOOTED}/trace"]
     status, told, said = run([f"{TOOLS}/{tool}", "--seconds", *words, *given], "" if folder else
                              read(f"{REBOOTED}/report"))
@@ -159,8 +159,7 @@ def test_throttling_is_told():
 
 
 def test_odd_words_of_a_node():
-    """What has another shape shows nothing, since the formats do not read it; a moment that is none is that of the
-    tick."""
+    """What has another shape shows nothing, since the formats do not read it; a moment that is none is the tick's."""
     text, report = read(f"{REBOOTED}/trace"), reports.read_report(read(f"{REBOOTED}/report"))
     said = f'{{"status":"Unknown","reason":"NodeStatusUnknown","since":{BEGIN + 12}}}'
     for odd, wanted in (("null", []), ("5", []), ("[]", []), ("{}", []), ('"x"', []), ('{"status":"True"}', []),
@@ -201,7 +200,7 @@ def test_use_is_told():
 
 
 def test_node_over_two_traces():
-    """A reboot ends a recorder, so it lies in the gap between two traces, each of which says its own boot."""
+    """A reboot ends a recorder, so it lies in the gap between two traces, each of which has its own boot."""
     lines = read(f"{REBOOTED}/trace").splitlines(keepends=True)
     before = lines[0].replace(str(BEGIN + 70), str(BEGIN - 500))
     behind = [place for place, line in enumerate(lines) if f'"at":{BEGIN + 90},' in line][0]
@@ -220,7 +219,7 @@ def test_node_over_two_traces():
 
 
 def test_dates_once():
-    """A date stands where it is another than in the row above, and in a text where it is another than the row's."""
+    """A date is there where it is another than in the row above, and in a text where it is another than the row's."""
     rows = [["2026-11-25 23:59:58Z", "at 2026-11-25 23:59:58Z, at 2026-11-26 00:00:03Z", "-"],
             ["2026-11-25 23:59:59Z", "-", "2026-11-25 23:59:59Z, 2026-11-26 00:00:00Z"],
             ["2026-11-26 00:00:01Z", "-", "2026-11-26 00:00:01Z, 2026-11-26 00:00:02Z"],
@@ -245,7 +244,7 @@ def trace_of_turns():
 
 
 def test_why_leaves_out():
-    """Up to the kill at 30 there are 29 runs of one result, and one of two: the last 12 begin with that of 18."""
+    """Up to the kill at 30 there are 29 runs of one result, and one of two: the last 12 begin with the run of 18."""
     folder, trace = tempfile.mkdtemp(), trace_of_turns()
     with open(f"{folder}/trace", "w") as file:
         file.write(trace)

@@ -140,7 +140,7 @@ def test_what_may_not_be_listed():
 
 
 def test_what_does_not_answer():
-    """A recorder and a list that hang are named after 5 s, and are missing; the others' answers are told."""
+    """A recorder and a list that hang are named after 5 s, and are missing; the others' answers are shown."""
     with Cluster() as cluster:
         cluster.put("recorder-b.hangs", "600")
         cluster.put("api/shop/events.hangs", "600")

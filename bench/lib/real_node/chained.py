@@ -15,7 +15,7 @@ from replay_tools.joined import asked, join
 
 # each of these has to be in a trace within two seconds, once
 WANTED = ("starts", "exits with their codes", "kills by a liveness probe", "ready", "unready")
-LEFT_OUT = ("evictions by the rules", "evictions told as a fact", "pods ended as evicted")
+LEFT_OUT = ("evictions by the rules", "evictions shown as a fact", "pods ended as evicted")
 
 
 @dataclass

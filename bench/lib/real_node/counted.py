@@ -15,7 +15,7 @@ FAR = 30
 # a pod's object may stay for longer than it was there
 GONE_FAR = 300
 KINDS = {"starts": "started", "exits with their codes": "died", "kills by a liveness probe": "kill", "ready": "ready",
-         "unready": "unready", "evictions by the rules": "evicted", "evictions told as a fact": "told",
+         "unready": "unready", "evictions by the rules": "evicted", "evictions shown as a fact": "told",
          "pods ended as evicted": "ended", "pods that went": "gone"}
 END = "ends"
 MOMENT = r"^[IWEF](\d\d)(\d\d) (\d\d):(\d\d):(\d\d)\.\d+.*eviction manager: "

@@ -1,4 +1,4 @@
-// Stands in for crictl, which Debian has not: it asks the runtime's own endpoint (CRI v1alpha2), and prints of
+// A stand-in for crictl, which Debian has not: it asks the runtime's own endpoint (CRI v1alpha2), and prints of
 //
 //	ps -a -o json, inspect -o json ID
 //

@@ -107,7 +107,7 @@ class Recorders:
             time.sleep(0.1)
         for name, process in self.processes.items():
             if process.returncode != 0:
-                print(f"real_node: the recorder {name} did not end well; {self.folder}/{name}.log says more",
+                print(f"real_node: the recorder {name} failed; {self.folder}/{name}.log has the reason",
                       file=sys.stderr)
         return found
 

@@ -16,7 +16,7 @@ from restarts import restarts_of
 from scenario import RUNS
 
 # each of these has to be in the report of the extended format within two seconds
-WANTED = ("starts", "exits with their codes", "evictions told as a fact")
+WANTED = ("starts", "exits with their codes", "evictions shown as a fact")
 # each of these is in no report that is none of the kubelet's
 UNWANTED = ("pods ended as evicted",)
 # from the verbosity of managed clusters to the run's

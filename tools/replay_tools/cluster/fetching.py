@@ -248,7 +248,7 @@ def cut(copy: BinaryIO, name: str) -> int | None:
     found = outside.json_of(line)
     until = outside.moment(found.get("at")) if isinstance(found, dict) else None
     if until is None:
-        raise asking.NoAnswer(f"{name} ends with a tick that is none")
+        raise asking.NoAnswer(f"{name} ends with an invalid tick line")
     return until
 
 

@@ -176,7 +176,7 @@ def file_of(line: str, node: str) -> tuple[File | None, str | None]:
     if owner != node:
         return None, f"{shown} is of another node"
     if bytes_of is None or changed is None:
-        return None, f"{shown} has no size or no time that can be"
+        return None, f"{shown} has an impossible size or time"
     return File(name, bytes_of, changed), None
 
 

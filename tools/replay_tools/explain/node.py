@@ -118,7 +118,7 @@ def quantity_advice(value: Any) -> Any:
         return "leave out the B: the suffixes are Ki, Mi, Gi, Ti, and k, M, G, T for powers of 1000"
     if value[-1:] == "K":
         return "write Ki, or a small k for 1000"
-    return 'write it as "100Mi", "1.5Gi" or "2000"; docs/quantities.md has all suffixes'
+    return 'write it as "100Mi", "1.5Gi" or "2000"; docs/formats.md has all suffixes'
 
 
 def limit_fault(node: Any, path: tuple[Any, ...], value: Any) -> Iterator[Found]:

@@ -27,7 +27,7 @@ FAULTS = {
     42: ("at is missing, no whole number, or not later than the last tick's", "keep one tick of each second",
          "Tick line"),
     43: ("a listing is not acceptable after the earlier ones", "record every tick whole", "Tick line"),
-    44: ("an exited container has no good exitCode", "ask for it with crictl inspect", "Tick line"),
+    44: ("an exited container has no valid exitCode", "ask for it with crictl inspect", "Tick line"),
     45: ("there are more than 256 pods or 20,000 ticks", "cut the trace in two", "The first fault of a text"),
     46: ("a field of the tick line has another value than the formats take", "write it as docs/formats.md has it",
          "Tick line"),
@@ -35,7 +35,7 @@ FAULTS = {
 MANIFEST_FAULTS = {
     11: ("a required field is missing", "put the whole object of kubectl get pod -o json under pod"),
     12: ("a field has another value than the formats take", "take the manifest as kubectl get pod -o json prints it"),
-    13: ("a quantity is none", "write it as kubectl prints it, as 100Mi or 500m"),
+    13: ("a quantity is invalid", "write it as kubectl prints it, as 100Mi or 500m"),
     14: ("a number of a probe is out of its range", "write it as kubectl prints it"),
     15: ("an init container has a probe", 'leave it out, or make it a sidecar: "restartPolicy":"Always"'),
     16: ("a request is above its limit", "the API server takes no such pod: mend one of the two"),

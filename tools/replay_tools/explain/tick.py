@@ -164,7 +164,7 @@ def stranger_pods(line: dict[str, Any], before: earlier.Before) -> Iterator[Foun
 def stranger(path: tuple[Any, ...], key: str, before: earlier.Before) -> Any:
     """A key that no present pod has."""
     if key in before.gone:
-        return is_(path, key, f"line {before.gone[key]} let this pod go", "leave it out of the ticks after that "
+        return is_(path, key, f"the pod is gone since line {before.gone[key]}", "leave it out of the ticks after that "
                    "line, or write a pod line for the one that came again")
     of_namespace = [known for known in before.pods if known.partition("/")[2] == key]
     if of_namespace:

@@ -37,7 +37,7 @@ def answer_alone(path: str, known: tuple[str | None, int | None], program: str, 
         [(_, answer)] = answers_of_pool([(path, known)], program, program_sum, 1)
         return answer
     except BrokenProcessPool:
-        return work.failed(path, "each process that had it in hand was ended")
+        return work.failed(path, "each process that replayed it was ended")
 
 
 def answers_of_pool(tasks: list[tuple[str, tuple[str | None, int | None]]], program: str, program_sum: str,

@@ -14,7 +14,7 @@ def answer(tools: str, *words: Any) -> dict[str, Any]:
     try:
         from replay_tools.fleet import work
     except ImportError:
-        raise RuntimeError(f"{tools} is not where a worker is") from None
+        raise RuntimeError(f"a worker has no folder {tools}") from None
     finally:
         sys.path.remove(tools)
     try:

@@ -126,4 +126,4 @@ def answer_without(future: Any, path: str) -> dict[str, Any]:
     fault = future.exception()
     if not isinstance(fault, distributed.KilledWorker):
         raise entry.Fault(str(fault).split("\n")[0])
-    return work.failed(path, "each worker that had it in hand died")
+    return work.failed(path, "each worker that replayed it died")

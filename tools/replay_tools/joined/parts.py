@@ -232,7 +232,7 @@ def read_part(source: files.Source, text: bytes, made: bytes) -> Part:
     except traces.TraceFault as fault:
         raise Unusable(str(fault)) from None
     except amounts.Wrong:
-        raise Unusable("it has a tick line that is none (kubelet-replay explain shows which)") from None
+        raise Unusable("it has an invalid tick line (kubelet-replay explain shows it)") from None
     if not trace.ticks:
         raise Unusable("it has no tick")
     return Part(source, trace, report, trace.ticks[0].at, trace.ticks[-1].at)

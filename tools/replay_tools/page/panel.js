@@ -312,7 +312,7 @@ function openKeys() {
     row.append(element('td', what));
   }
   openPanel('Keys', [made, said('Drag over a lane or a chart to zoom, or pinch it. A click on a pod opens its '
-    + 'story, one on a mark or a cross the why of the events there. A mark stands for all events within five pixels; '
+    + 'story, one on a mark or a cross the why of the events there. A mark shows all events within five pixels; '
     + 'where marks are dense, a strip below the lane has their colours. A click on the name of a signal makes its '
     + 'chart tall or low.')]);
 }

@@ -69,10 +69,9 @@ def temporary() -> IO[bytes]:
 
 
 def no_room(said: str) -> entry.Fault:
-    """That what is kept for a tool has no place."""
+    """The fault that there is no room for a tool's own files."""
     folder = os.environ.get("TMPDIR") or "/tmp"
-    return entry.Fault(f"what it has to keep has no place in {folder}: {said} (TMPDIR names another folder)",
-                       Status.FAILED)
+    return entry.Fault(f"it can't keep files in {folder}: {said} (TMPDIR names another folder)", Status.FAILED)
 
 
 def replayed(path: str) -> IO[bytes]:

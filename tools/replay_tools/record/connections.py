@@ -352,7 +352,7 @@ class Proxy:
             self.folder = folder = tempfile.mkdtemp(prefix="record-")
         except OSError as error:
             folder = f"{os.environ.get('TMPDIR') or '/tmp'} (TMPDIR names another folder)"
-            raise Failed(f"kubectl proxy has no place in {folder}: {error.strerror}") from None
+            raise Failed(f"kubectl proxy can't keep a file in {folder}: {error.strerror}") from None
         self.socket = os.path.join(folder, "proxy")
         words = ["kubectl", "proxy", f"--unix-socket={self.socket}"]
         try:

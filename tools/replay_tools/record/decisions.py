@@ -116,7 +116,7 @@ def refused_at(status: dict[str, Any], seen_at: float | None) -> float | None:
 
 
 def moment_in(status: dict[str, Any]) -> float | None:
-    """When the kubelet told the pod to end, if a condition has it."""
+    """When the kubelet ordered the pod to end, if a condition has it."""
     for condition in status.get("conditions") or []:
         if condition.get("type") == "DisruptionTarget" and condition.get("reason") == "TerminationByKubelet":
             return moment_of(condition.get("lastTransitionTime"))

@@ -10,6 +10,8 @@ import shutil
 from dataclasses import dataclass
 from typing import Any, Optional
 
+from replay_tools.cli.definition import RECORD
+
 from . import lines
 from .alone import ALONE
 from .folder import may_be_made
@@ -21,11 +23,10 @@ from .sources import KUBECTL
 # the options with numbers, and the greatest number of each
 NUMBERS = {"--every": 86400, "--look": 3600, "--ticks": MOST_TICKS, "--for": 31622400, "--logs": MOST_LINES}
 LASTING = ("--each", "--keep", "--most", "--ship")
-TEXTS = ("--node", "--kubelet", "--curl", "--crictl", "--node-line", "--eviction-pause", "--metrics", "--events",
-         "--throttled", "--into", *LASTING, *NUMBERS)
-# those whose value is a file or a folder
-FILES = ("--curl", "--node-line", "--metrics", "--into")
-SWITCHES = ("--standard", "--extended", "--simulate", "--check")
+# the options of the specification: with a value, and without one. The value of --crictl or --ship may begin with --,
+# which argparse takes for an option, so split() reads them
+TEXTS = [name for option in RECORD.options if option.value for name in option.names]
+SWITCHES = [name for option in RECORD.options if not option.value for name in option.names]
 MOST_PAUSE = 2 ** 31 - 1
 UNITS = {"s": 1, "m": 60, "h": 3600, "d": 86400}
 SIZES = {"": 1, "k": 10 ** 3, "M": 10 ** 6, "G": 10 ** 9, "T": 10 ** 12, "Ki": 2 ** 10, "Mi": 2 ** 20, "Gi": 2 ** 30,

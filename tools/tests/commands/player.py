@@ -1,4 +1,4 @@
-"""Plays a node to tools/record: by a script of what happens at which moment, or by answers that were captured."""
+"""Answers tools/record as a node: by a script of what happens at which moment, or by answers that were captured."""
 
 import gzip
 import json
@@ -34,11 +34,11 @@ def kind_of(words):
 
 class Play:
     """A script: its moments are seconds from `begin` on. It has
-    clock       what the clock says at each look, where it is no good one, and `true` the moments of these looks
+    clock       what the clock shows at each poll, where it is no good one, and `true` the moments of these polls
     pods        {key: {"from", "until", "spec", "annotations", "deleted", "grace", "evicted", "refused", "failed",
                 "reason", "message", "condition", "waits"}}; a key may have a list of them, one after the other;
-                `grace` is that of its deletion, `failed` since when the kubelet has ended it, for `reason`, with its
-                containers as they are; `condition` the moment that an evicted pod's status says, and `waits` a list of
+                `grace` is its deletion's, `failed` since when the kubelet has ended it, for `reason`, with its
+                containers as they are; `condition` the moment that an evicted pod's status has, and `waits` a list of
                 {"container", "from", "until", "count", "reason", "message"}, of its status too, with its count of
                 restarts; `says` is a list of {"from", "status"}: members that its status has from then on; `resized` is
                 a list of {"from", "resources"}: the resources of containers of its spec from then on, by their names
@@ -87,7 +87,7 @@ class Play:
         return self.script.get("slow", {}).get(kind_of(words)[0], 0)
 
     def true_moment(self, now):
-        """The moment at which the clock says so; a look of its own each time that it says something else."""
+        """The moment that the clock shows; a poll of its own each time that it shows something else."""
         if "true" not in self.script:
             return now - self.begin
         if now != self.said_last:
@@ -188,7 +188,7 @@ class Play:
                 if member in ("initContainers", "containers") else value for member, value in life["spec"].items()}
 
     def status(self, life, uid, moment):
-        """A pod's status: that of a pod that the kubelet ended has no containers."""
+        """A pod's status; a pod that the kubelet ended has no containers in it."""
         ended = min(life.get("evicted", float("inf")), life.get("refused", float("inf")))
         if ended <= moment:
             status = {"phase": "Failed", "reason": "Evicted", "message": life.get("message", "")}
@@ -208,7 +208,7 @@ class Play:
         return {**phase, **({"containerStatuses": listed} if listed else {}), **(says[-1] if says else {})}
 
     def told(self, each, moment):
-        """What a pod's status says of an instance."""
+        """What a pod's status has of an instance."""
         if moment < each["told"]:
             return {"name": each["name"], "state": {"running": {}}, **each.get("shown", {})}
         started = self.begin + each["started"] if "started" in each else None
@@ -227,7 +227,7 @@ class Play:
         return json.dumps({"node": node, "pods": pods})
 
     def stats(self, containers):
-        """What a pod's containers used, where the script says it."""
+        """What a pod's containers used, where the script has it."""
         if containers is None:
             return {}
         return {"containers": [{"name": name, "cpu": {"usageNanoCores": cores}, "memory": {
@@ -235,7 +235,7 @@ class Play:
             for name, (working_set, usage, cores, at) in containers.items()]}
 
     def cadvisor(self, moment):
-        """What the kubelet's /metrics/cadvisor says of throttling, among what it has of other metrics."""
+        """What the kubelet's /metrics/cadvisor has of throttling, among other metrics."""
         answers = {float(at): answer for at, answer in self.script.get("throttled", {}).items()}
         newest = max((at for at in answers if at <= moment), default=None)
         made = {each["id"]: each for each in self.script["containers"]}

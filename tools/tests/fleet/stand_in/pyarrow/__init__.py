@@ -1,4 +1,4 @@
-"""Stands in for pyarrow, with the few functions that tools/fleet uses. A table is its names, kinds and columns."""
+"""A stand-in for pyarrow, with the few functions that tools/fleet uses. A table is its names, kinds and columns."""
 
 
 def int64():
@@ -10,7 +10,7 @@ def string():
 
 
 class Schema(list):
-    """Names and kinds, with what was said of them."""
+    """Names and kinds, with their metadata."""
 
     def __init__(self, fields, metadata):
         super().__init__(fields)

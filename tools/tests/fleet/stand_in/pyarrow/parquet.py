@@ -1,4 +1,4 @@
-"""Stands in for pyarrow.parquet: its files are JSON."""
+"""A stand-in for pyarrow.parquet: its files are JSON."""
 
 import json
 

@@ -1,24 +1,19 @@
-#!/usr/bin/env python3
 """Prints what the program's instructions are spent on: runs it under callgrind, with 1 worker, over a small trace of
-each kind of bench/traces, and prints the share of each group of functions and the dearest functions.
-  bench/profile [PROGRAM]
-runs PROGRAM, or the program that ./kubelet_replay builds.
+each kind of bench/measure traces, and prints the share of each group of functions and the most expensive functions.
 
-A function belongs to the crate that its symbol begins with. What the compiler drew into a function counts as that
+A function belongs to the crate that its symbol begins with. What the compiler inlined into a function counts as that
 function. A function of the standard library counts as its callers, by how much each has it do.
 """
-import os
 import subprocess
 import sys
 import tempfile
 
-TOP = os.path.dirname(os.path.dirname(os.path.realpath(__file__)))
-sys.dont_write_bytecode = True
-sys.path.insert(0, os.path.join(TOP, "bench/lib"))
-import script  # noqa: E402
-from callgrind import Profile  # noqa: E402
-from crates import below_of  # noqa: E402
-from profile_tables import tables  # noqa: E402
+import script
+from callgrind import Profile
+from crates import below_of
+from measures import traces
+from profile_tables import tables
+from script import TOP
 
 TRACES = ("small_pods", "small_ticks", "small_lines")
 
@@ -42,19 +37,16 @@ def profile_of(costs, ours):
         return Profile(lines, ours)
 
 
-def main(words):
-    if len(words) > 1 or words and words[0].startswith("-"):
-        raise script.Usage("bench/profile [PROGRAM]")
+def add_to(arguments):
+    script.add_program(arguments)
+
+
+def main(given):
     script.need(valgrind="valgrind is missing; callgrind is a part of it")
-    program, ours = script.program_of(words), below_of(TOP)
-    print(f"bench/profile: callgrind runs {program} over {' '.join(TRACES)}", file=sys.stderr)
+    program, ours = script.program_in(given), below_of(TOP)
+    print(f"bench/measure profile: callgrind runs {program} over {' '.join(TRACES)}", file=sys.stderr)
     with tempfile.TemporaryDirectory() as work:
-        if subprocess.run([f"{TOP}/bench/traces", work, *TRACES], check=False).returncode != 0:
-            raise script.Fault("")  # it has printed why
+        traces.write_into(work, TRACES)
         costs = {trace: costs_of(program, trace, work) for trace in TRACES}
         for line in tables({trace: profile_of(file, ours) for trace, file in costs.items()}):
             print(line)
-
-
-if __name__ == "__main__":
-    script.run("bench/profile", main, __doc__)
