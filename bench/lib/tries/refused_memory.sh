@@ -52,7 +52,7 @@ refuse() {
     [ "$refused" != 0 ] || bad=$((bad + 1))
 }
 
-# the calls of refused_calls in the order of its lines, and the ways in which they fail
+# the calls of case_runner in the order of its lines, and the ways in which they fail
 names=(hand update_in_place update arrive tick_alone tick_play tick ticks update_all report_text)
 ways=(hand update_in_place update arrive tick_alone tick_play tick ticks "update_all, no room" "update_all, update"
     report_text)
@@ -77,7 +77,7 @@ is_expected() {
     return 1
 }
 
-# refuse_calls: runs refused_calls with each growth failing, once or until each way was seen, and five times at most
+# refuse_calls: runs case_runner calls with each growth failing, once or until each way was seen, and five times at most
 refuse_calls() {
     local status whole out said way n refused=0 missed
     whole=$(printf '%s: done\n' "${names[@]}")$'\n'
@@ -86,7 +86,8 @@ refuse_calls() {
         while [ "$missed" -lt 3 ]; do
             n=$((n + 1))
             : > "$quick/met"
-            REFUSE=$n REFUSED=$quick/met LD_PRELOAD=$work/refuse.so "$calls" </dev/null >"$quick/out" 2>"$quick/err"
+            REFUSE=$n REFUSED=$quick/met LD_PRELOAD=$work/refuse.so \
+                "$calls" calls </dev/null >"$quick/out" 2>"$quick/err"
             status=$?
             if [ -s "$quick/met" ]; then refused=$((refused + 1)) missed=0; else missed=$((missed + 1)); fi
             take out "$quick/out"
@@ -94,18 +95,18 @@ refuse_calls() {
             if [ "$status,$out$said" = "0,$whole" ]; then continue; fi
             if [ "$missed" = 0 ] && [ "$status,$out$said" = 1, ]; then continue; fi
             if [ "$missed" = 0 ] && [ "$status,$said" = 0, ] && is_expected "$quick/out"; then continue; fi
-            echo "refused_calls: growth $n failed: status $status, '${out//$'\n'/ / }', '${said%$'\n'}'"
+            echo "case_runner calls: growth $n failed: status $status, '${out//$'\n'/ / }', '${said%$'\n'}'"
             bad=$((bad + 1))
         done
         [ "${#seen[@]}" -lt "${#ways[@]}" ] || break
     done
     for way in "${ways[@]}"; do
         if [ ! "${seen[$way]-}" ]; then
-            echo "refused_calls: in no run did memory fail in $way"
+            echo "case_runner calls: in no run did memory fail in $way"
             bad=$((bad + 1))
         fi
     done
-    echo "refused_calls: $refused growths failed, one after the other;" \
+    echo "case_runner calls: $refused growths failed, one after the other;" \
         "${#seen[@]} of ${#ways[@]} failures of its calls seen"
 }
 

@@ -1,1 +1,2 @@
+pub mod Pods
 pub mod Why

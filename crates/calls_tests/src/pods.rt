@@ -1,17 +1,44 @@
 //! The pods of a trace, each with what the first tick shows of it.
 
-ghost use Rattle.std.specs.Prelude.{◌≡◌, ◌<◌, ◌≤◌, length, IfOk, OnOk};
+ghost use Rattle.std.specs.Prelude.{◌≡◌, ◌<◌, ◌≤◌, length, IfOk, IsTrue, OnOk};
 ghost use Rattle.observations.specs.rule.Limits.{most_pods};
-ghost use Rattle.test_pods.specs.state.Pods.{ArePending};
+ghost use Rattle.pod_state.specs.rule.Pods.{pod_tick};
+ghost use Rattle.pod_piece.specs.state.Listings.{IsNextTick};
+ghost use Rattle.calls_tests.specs.state.Pods.{ArePending};
 
 use crate::scenario::Scenario;
+use histories::is_before;
 use kubelet_replay::Gate;
 use manifest::{MaxRestartDelay, PodSpec};
 use observations::{MOST_PODS, PodObs, TickObs};
 use pod_piece::PodPiece;
+use quantity::END_OF_TIME;
 use std::alloc::Global;
 use std::test::Fail;
-use test_pods::hand;
+
+/// Whether the observation may come next.
+fn may_take(piece: &PodPiece, observed: &PodObs) -> bool
+    ensures { IsTrue result → IsNextTick piece.now.pod piece.now.handed (pod_tick observed.now) }
+{
+    if piece.pending() {
+        return false;
+    }
+    observed.at() < END_OF_TIME
+        && is_before(piece.last_at(), observed.at())
+        && piece.accepts(observed)
+}
+
+/// The pod takes the observation, if it may come next.
+fn hand(piece: &mut PodPiece, observed: PodObs) -> Result<(), Fail>
+    ensures number { piece.new.number ≡ piece.old.number }
+    ensures pending { OnOk result (0 < piece.new.waiting) }
+{
+    if !may_take(piece, &observed) {
+        return Err(Fail::new("the observation may not come next"));
+    }
+    piece.hand(observed)?;
+    Ok(())
+}
 
 /// The pod, to which the observation was handed.
 fn handed(piece: PodPiece, observed: PodObs) -> Result<PodPiece, Fail>
@@ -23,7 +50,7 @@ fn handed(piece: PodPiece, observed: PodObs) -> Result<PodPiece, Fail>
         Ok(()) => Ok(piece),
         Err(fault) => {
             drop(piece);
-            Err(fault.into())
+            Err(fault)
         }
     }
 }

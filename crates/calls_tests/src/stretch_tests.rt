@@ -67,8 +67,55 @@ fn updates_overlap_where_none_waits(rt: HostRuntime) -> Result<(), Fail> {
     Ok(())
 }
 
-/// Any number of workers tells of the trace what its ticks tell, with this many evictions, and each of its updates
-/// passes the gate once.
+/// Traces of few updates, each with how many evictions it has: evictions divide the ticks, a pod arrives amid a round,
+/// one goes, both at once, a round goes on while evictions pause, and all pods are evicted in ticks that follow each
+/// other. `traces/stretches` of `bench/cases` has the same with their reports, and so many updates that threads start.
+const TRACES: [(LongTrace, usize); 6] = [
+    (SHORT, 2),
+    (
+        LongTrace {
+            arrives: Some(30),
+            ..SHORT
+        },
+        2,
+    ),
+    (
+        LongTrace {
+            goes: Some(30),
+            ..SHORT
+        },
+        2,
+    ),
+    (
+        LongTrace {
+            arrives: Some(30),
+            goes: Some(30),
+            ..SHORT
+        },
+        2,
+    ),
+    // of these ticks the second and the third are within a minute of the first
+    (
+        LongTrace {
+            short: &[15, 17, 20, 21, 44],
+            pause: 60,
+            ..SHORT
+        },
+        3,
+    ),
+    // nobody is left from the fourth of these ticks on
+    (
+        LongTrace {
+            pods: 3,
+            short: &[15, 16, 17, 18, 19],
+            ..SHORT
+        },
+        3,
+    ),
+];
+
+/// However many workers run, and all of them do, each update of the trace passes the gate once, and the report is the
+/// report of its ticks one after the other, with this many evictions.
 fn expect_alike<H: Abort + AllocGlobal + Clock + Threads + Wait + Sync>(
     rt: &H,
     trace: LongTrace,
@@ -88,62 +135,9 @@ fn expect_alike<H: Abort + AllocGlobal + Clock + Threads + Wait + Sync>(
 }
 
 #[test]
-fn evictions_divide_the_ticks(rt: HostRuntime) -> Result<(), Fail> {
-    expect_alike(&rt, SHORT, 2)
-}
-
-#[test]
-fn a_pod_arrives_amid_a_round(rt: HostRuntime) -> Result<(), Fail> {
-    let arrives = Some(30);
-    expect_alike(&rt, LongTrace { arrives, ..SHORT }, 2)
-}
-
-#[test]
-fn a_pod_goes_amid_a_round(rt: HostRuntime) -> Result<(), Fail> {
-    let goes = Some(30);
-    expect_alike(&rt, LongTrace { goes, ..SHORT }, 2)
-}
-
-#[test]
-fn one_pod_goes_and_another_arrives_at_once(rt: HostRuntime) -> Result<(), Fail> {
-    let (arrives, goes) = (Some(30), Some(30));
-    expect_alike(
-        &rt,
-        LongTrace {
-            arrives,
-            goes,
-            ..SHORT
-        },
-        2,
-    )
-}
-
-// Of these ticks the second and the third are within a minute of the first.
-#[test]
-fn a_round_goes_on_while_evictions_pause(rt: HostRuntime) -> Result<(), Fail> {
-    let (short, pause): (&'static [usize], usize) = (&[15, 17, 20, 21, 44], 60);
-    expect_alike(
-        &rt,
-        LongTrace {
-            short,
-            pause,
-            ..SHORT
-        },
-        3,
-    )
-}
-
-// Nobody is left from the fourth of these ticks on.
-#[test]
-fn all_pods_are_evicted_in_ticks_that_follow_each_other(rt: HostRuntime) -> Result<(), Fail> {
-    let (pods, short): (usize, &'static [usize]) = (3, &[15, 16, 17, 18, 19]);
-    expect_alike(
-        &rt,
-        LongTrace {
-            pods,
-            short,
-            ..SHORT
-        },
-        3,
-    )
+fn each_update_passes_the_gate_once(rt: HostRuntime) -> Result<(), Fail> {
+    for (trace, evictions) in TRACES {
+        expect_alike(&rt, trace, evictions)?;
+    }
+    Ok(())
 }

@@ -1,5 +1,5 @@
 use Rattle.std.proofs.Common.{◌∙◌}
-use Rattle.test_pods.proofs.Pieces.{one_more}
+use Rattle.calls_tests.proofs.Pieces.{one_more}
 use Rattle.calls_tests.proofs.pods.add.Goals as goal
 
 pub returns : goal.returns

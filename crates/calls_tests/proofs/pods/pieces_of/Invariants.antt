@@ -1,4 +1,4 @@
-use Rattle.test_pods.specs.state.Pods.{ArePending}
+use Rattle.calls_tests.specs.state.Pods.{ArePending}
 use Rattle.calls_tests.proofs.pods.pieces_of.Given as goal
 
 abbrev pub invariant-loop-pod : goal.invariant-loop-pod

@@ -1,0 +1,9 @@
+-- The pods of a round.
+use Rattle.std.specs.Prelude.{◌<◌, List, All}
+use Rattle.pod_piece.specs.rule.Piece.{Piece}
+use Rattle.piece_deques.specs.state.Rule.{AreNumbered}
+
+-- pods, numbered from 0 on, that are to be updated
+pub record ArePending (pieces : List Piece) : Type 0 where
+  pub pending : All (λ (piece : Piece). 0 < piece.waiting) pieces
+  pub numbered : AreNumbered pieces

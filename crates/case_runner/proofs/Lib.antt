@@ -1,0 +1,2 @@
+pub mod FirstPieces
+pub mod Pieces

@@ -1,0 +1,2 @@
+pub mod Pods
+pub mod Round
