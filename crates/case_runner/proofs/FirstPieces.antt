@@ -2,7 +2,7 @@
 use Rattle.std.proofs.Common.{◌≡◌, ◌∙◌, ℕ, ◌+◌, List, [], ◌∷◌, ◌++◌, length, length-append, sym, ap}
 use Rattle.std.specs.Prelude.{◌<◌}
 use Rattle.pod_piece.specs.rule.Piece.{Piece}
-use Rattle.case_runner.proofs.Pieces as pieces
+use Rattle.case_runner.proofs.PendingPieces as pieces
 use Rattle.case_runner.specs.state.Round.{AreFirst}
 
 pub one_more : (count : ℕ) (old new : List Piece) (piece : Piece) → AreFirst count old → new ≡ old ++ piece ∷ []

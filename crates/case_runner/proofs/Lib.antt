@@ -1,2 +1,2 @@
 pub mod FirstPieces
-pub mod Pieces
+pub mod PendingPieces
