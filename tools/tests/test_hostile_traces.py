@@ -125,7 +125,7 @@ def test_values_of_no_kind():
             of_probe = "container" in was or "result" in was
             for words in (["why", "shop/web-0", "--trace"], ["page"], *[["json", "--trace"]] * (not of_probe)):
                 answer = made.run(*words, path, given=report)
-                expect_refused(f"{words[0]} of {odd}", answer, 2, "(kubelet-replay explain shows wh")
+                expect_refused(f"{words[0]} of {odd}", answer, 2, "(kubelet-replay explain shows ")
     for fault in (KeyError, TypeError, AttributeError, ValueError):
         def fail(kind=fault):
             raise kind("a fault of the tools' own")
