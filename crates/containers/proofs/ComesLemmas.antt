@@ -63,7 +63,7 @@ said_now Q h x a f =
     ]
 
 -- of an instance to which the tick does not belong nothing comes true
-not_comes : (Q : ℕ → List ProbeTick → Type 0) (h : List ContainerTick) (x : ContainerTick) (d : Differ) (a : ℕ)
+pub not_comes : (Q : ℕ → List ProbeTick → Type 0) (h : List ContainerTick) (x : ContainerTick) (d : Differ) (a : ℕ)
     → IsDifferOf (listings h) d → DifferAccepts d x.entry.seen
     → (BelongsTo a (h ++ x ∷ []) → ⊥) → ComesTrue (λ k. SaysOf Q k a) (h ++ x ∷ []) (length h) → ⊥
 not_comes Q h x d a is accepts none f =
@@ -82,7 +82,7 @@ not_comes Q h x d a is accepts none f =
     ]
 
 -- and of one to which it does, what its probes say comes true
-comes_by : (Q : ℕ → List ProbeTick → Type 0) (h : List ContainerTick) (x : ContainerTick) (a start : ℕ)
+pub comes_by : (Q : ℕ → List ProbeTick → Type 0) (h : List ContainerTick) (x : ContainerTick) (a start : ℕ)
     (ticks : List ProbeTick) → IsTaken h x a start ticks → Lasts (Q start)
     → (ComesTrue (Q start) (ticks ++ results_of x ∷ []) (length ticks) ↔ ComesTrue (λ k. SaysOf Q k a) (h ++ x ∷ [])
     (length h))

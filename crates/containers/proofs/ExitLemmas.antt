@@ -55,14 +55,14 @@ pub record AreExitsFor (k : List Tick) (P : ℕ → Type 0) (exits : List Exit) 
 abbrev pub HasExit : List Tick → ℕ → Type 0
 HasExit k a = (t : ℕ) × IsExit k a t
 
-exits_append : (k : List Tick) (attempts : List ℕ) (exits : List Exit) (a : ℕ) (e : Exit)
+pub exits_append : (k : List Tick) (attempts : List ℕ) (exits : List Exit) (a : ℕ) (e : Exit)
     → AreExitsOf k attempts exits → IsExitOf k a e → AreExitsOf k (attempts ++ a ∷ []) (exits ++ e ∷ [])
 exits_append k [] [] a e are is = (is, tt)
 exits_append k [] (f ∷ exits) a e are is = absurd are
 exits_append k (b ∷ attempts) [] a e are is = absurd are
 exits_append k (b ∷ attempts) (f ∷ exits) a e are is = (are.0, exits_append k attempts exits a e are.1 is)
 
-exit_added : (k : List Tick) (P Q : ℕ → Type 0) (exits : List Exit) (a : ℕ) (e : Exit) → AreExitsFor k P exits
+pub exit_added : (k : List Tick) (P Q : ℕ → Type 0) (exits : List Exit) (a : ℕ) (e : Exit) → AreExitsFor k P exits
     → IsExitOf k a e
     → ((b : ℕ) → P b → b < a) → ((b : ℕ) → (Q b ↔ (P b ⊎ (a ≡ b)))) → AreExitsFor k Q (exits ++ e ∷ [])
 exit_added k P Q exits a e are is below split = record {
@@ -78,7 +78,7 @@ exit_added k P Q exits a e are is below split = record {
   each = exits_append k are.attempts exits a e are.each is;
 }
 
-exit_none : (k : List Tick) (P Q : ℕ → Type 0) (exits : List Exit) → AreExitsFor k P exits → ((b : ℕ) → (Q b ↔ P b))
+pub exit_none : (k : List Tick) (P Q : ℕ → Type 0) (exits : List Exit) → AreExitsFor k P exits → ((b : ℕ) → (Q b ↔ P b))
     → AreExitsFor k Q (exits ++ [])
 exit_none k P Q exits are same =
     let R : List Exit → Type 0 = λ es. AreExitsOf k are.attempts es in
@@ -90,13 +90,13 @@ exit_none k P Q exits are same =
     }
 
 -- an exit with its run stays
-start_stays : (k : List Tick) (x : Tick) (a : ℕ) (start : Option ℕ) → (IsSomeAnd x.entry (IsOfAs a Running) → ⊥)
+pub start_stays : (k : List Tick) (x : Tick) (a : ℕ) (start : Option ℕ) → (IsSomeAnd x.entry (IsOfAs a Running) → ⊥)
     → IsFirstMoment k (ListedAs k a Running) start
     → IsFirstMoment (k ++ x ∷ []) (ListedAs (k ++ x ∷ []) a Running) start
 start_stays k x a None not none = none_more (length k) _ _ _ (grows_seen (IsOfAs a Running) k x) none not
 start_stays k x a (Some m) not f = moment_kept k x _ _ _ m (grows_seen (IsOfAs a Running) k x) f
 
-exit_stays : (k : List Tick) (d : Differ) (x : Tick) (a : ℕ) (e : Exit) → IsDifferOf k d → DifferAccepts d x.entry
+pub exit_stays : (k : List Tick) (d : Differ) (x : Tick) (a : ℕ) (e : Exit) → IsDifferOf k d → DifferAccepts d x.entry
     → IsExitOf k a e → IsExitOf (k ++ x ∷ []) a e
 exit_stays k d x a e is accepts of = record {
   moment = moment_kept k x _ _ _ e.moment (grows_ends k a x) of.moment;
@@ -110,7 +110,7 @@ exit_stays k d x a e is accepts of = record {
   };
 }
 
-exits_stay : (k : List Tick) (d : Differ) (x : Tick) (attempts : List ℕ) (exits : List Exit) → IsDifferOf k d
+pub exits_stay : (k : List Tick) (d : Differ) (x : Tick) (attempts : List ℕ) (exits : List Exit) → IsDifferOf k d
     → DifferAccepts d x.entry
     → AreExitsOf k attempts exits → AreExitsOf (k ++ x ∷ []) attempts exits
 exits_stay k d x [] [] is accepts are = tt
@@ -119,7 +119,7 @@ exits_stay k d x (a ∷ attempts) [] is accepts are = are
 exits_stay k d x (a ∷ attempts) (e ∷ exits) is accepts are =
     (exit_stays k d x a e is accepts are.0, exits_stay k d x attempts exits is accepts are.1)
 
-exits_kept : (k : List Tick) (d : Differ) (x : Tick) (exits : List Exit) → IsDifferOf k d → DifferAccepts d x.entry
+pub exits_kept : (k : List Tick) (d : Differ) (x : Tick) (exits : List Exit) → IsDifferOf k d → DifferAccepts d x.entry
     → AreExits k exits → AreExitsFor (k ++ x ∷ []) (HasExit k) exits
 exits_kept k d x exits is accepts are = record {
   attempts = are.attempts;
@@ -224,12 +224,12 @@ exit_cases k x a (t, e) = elim (IsFirst-split (length k) _ _ _ (grows_ends k a x
       ]
 ]
 
-exit_back : (k : List Tick) (x : Tick) (a : ℕ) → OrGone k x a → HasExit (k ++ x ∷ []) a
+pub exit_back : (k : List Tick) (x : Tick) (a : ℕ) → OrGone k x a → HasExit (k ++ x ∷ []) a
 exit_back k x a (inl p) = (p.0, IsExit-old k a x p.0 p.1)
 exit_back k x a (inr g) = (length k, g.0)
 
 -- the listed one is the newest
-dies_listed : (k : List Tick) (x : Tick) (a : ℕ) (code : ℤ) → DiesWith k x a code → IsSomeAnd x.entry (IsOf a)
+pub dies_listed : (k : List Tick) (x : Tick) (a : ℕ) (code : ℤ) → DiesWith k x a code → IsSomeAnd x.entry (IsOf a)
 dies_listed k x a code died =
     of_coded a code x.entry (now (λ seen. (seen.attempt ≡ a) × (seen.code ≡ Some code)) k x died.1)
 

@@ -3,10 +3,10 @@ pub mod ViewLemmas
 mod FirstLemmas
 pub mod TickLemmas
 pub mod FollowLemmas
-mod ListLemmas
-mod ExitLemmas
-mod CountLemmas
-mod RestartLemmas
+pub mod ListLemmas
+pub mod ExitLemmas
+pub mod CountLemmas
+pub mod RestartLemmas
 pub mod ComesLemmas
 mod EventLemmas
 mod StepLemmas

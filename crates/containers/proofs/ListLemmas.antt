@@ -14,7 +14,7 @@ contains_here x xs = (0, omega arith, refl)
 pub contains_there : (x b : ℕ) (xs : List ℕ) → Contains xs b → Contains (x ∷ xs) b
 contains_there x b xs (k, lt, e) = (suc k, omega arith, e)
 
-contains_split : (x b : ℕ) (xs : List ℕ) → Contains (x ∷ xs) b → (x ≡ b) ⊎ Contains xs b
+pub contains_split : (x b : ℕ) (xs : List ℕ) → Contains (x ∷ xs) b → (x ≡ b) ⊎ Contains xs b
 contains_split x b xs (zero, lt, e) = inl e
 contains_split x b xs (suc k, lt, e) = inr (k, omega arith, e)
 
@@ -36,13 +36,13 @@ contains_cases (x ∷ xs) a b c = elim (contains_split x b (xs ++ a ∷ []) c) [
   | inr c ↦ elim (contains_cases xs a b c) [ inl c ↦ inl (contains_there x b xs c) | inr e ↦ inr e ]
 ]
 
-get_contains : (xs : List ℕ) (i b : ℕ) → slice_get xs i ≡ Some b → Contains xs b
+pub get_contains : (xs : List ℕ) (i b : ℕ) → slice_get xs i ≡ Some b → Contains xs b
 get_contains [] i b e = absurd (cc)
 get_contains (x ∷ xs) zero b e = let same : x ≡ b = cc in let P : ℕ → Type 0 = λ y. Contains (x ∷ xs) y in
     subst P same (contains_here x xs)
 get_contains (x ∷ xs) (suc i) b e = contains_there x b xs (get_contains xs i b e)
 
-contains_get : (xs : List ℕ) (b : ℕ) → Contains xs b → (i : ℕ) × (slice_get xs i ≡ Some b)
+pub contains_get : (xs : List ℕ) (b : ℕ) → Contains xs b → (i : ℕ) × (slice_get xs i ≡ Some b)
 contains_get [] b c = absurd (contains_nothing b c)
 contains_get (x ∷ xs) b c = elim (contains_split x b xs c) [
   | inl e ↦ (0, ap (λ y. Some y) e)
@@ -50,13 +50,13 @@ contains_get (x ∷ xs) b c = elim (contains_split x b xs c) [
 ]
 
 -- the first of a rising list is below all others, which rise too
-rising_head : (x : ℕ) (xs : List ℕ) (b : ℕ) → IsRisingList (x ∷ xs) → Contains xs b → x < b
+pub rising_head : (x : ℕ) (xs : List ℕ) (b : ℕ) → IsRisingList (x ∷ xs) → Contains xs b → x < b
 rising_head x xs b r c = let w = contains_get xs b c in r 0 (suc w.0) x b (omega arith) refl w.1
 
-rising_tail : (x : ℕ) (xs : List ℕ) → IsRisingList (x ∷ xs) → IsRisingList xs
+pub rising_tail : (x : ℕ) (xs : List ℕ) → IsRisingList (x ∷ xs) → IsRisingList xs
 rising_tail x xs r i j a b lt e f = r (suc i) (suc j) a b (omega arith) e f
 
-rising_made : (x : ℕ) (xs : List ℕ) → ((b : ℕ) → Contains xs b → x < b) → IsRisingList xs → IsRisingList (x ∷ xs)
+pub rising_made : (x : ℕ) (xs : List ℕ) → ((b : ℕ) → Contains xs b → x < b) → IsRisingList xs → IsRisingList (x ∷ xs)
 rising_made x xs above r zero zero a b lt e f = absurd (omega arith)
 rising_made x xs above r zero (suc j) a b lt e f = let same : x ≡ a = cc in let less : x < b =
     above b (get_contains xs j b f) in omega arith

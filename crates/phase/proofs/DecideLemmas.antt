@@ -22,10 +22,10 @@ use Rattle.phase.specs.rule.RawPhase.{IsAwaited, HasInitialized, AreInitialized,
 use Rattle.phase.specs.state.PolicyPhase.{HasFinished, IsFailedInit, HaveFinished, IsRawPhase}
 
 -- the codes
-zero_or_not : (code : ℤ) → OrNot (code ≡ pos 0)
+pub zero_or_not : (code : ℤ) → OrNot (code ≡ pos 0)
 zero_or_not code = of_test _ (Decides-int_eq code (pos 0))
 
-completed_or_not : (view : ContainerView) → OrNot (HasCompleted of_view view)
+pub completed_or_not : (view : ContainerView) → OrNot (HasCompleted of_view view)
 completed_or_not view = there (exit_code view)
   where
     there : (o : Option ℤ) → OrNot (o ≡ Some (pos 0))
@@ -36,7 +36,7 @@ completed_or_not view = there (exit_code view)
           ↦ inr (λ e. n (let x : code ≡ pos 0 = grind arith in x))
     ]
 
-failed_or_not : (view : ContainerView) → OrNot (HasFailed of_view view)
+pub failed_or_not : (view : ContainerView) → OrNot (HasFailed of_view view)
 failed_or_not view = there (exit_code view)
   where
     there : (o : Option ℤ) → OrNot ((code : ℤ) × (o ≡ Some code) × (code ≢ pos 0))
@@ -95,7 +95,7 @@ pub record IsDecided {C : Type 0} (facts : Facts C) (policy : Policy) (container
   pub completes : OrNot (facts.is container App → HasCompleted facts container)
   pub failed_app : OrNot (facts.is container App × HasFailed facts container)
 
-awaited_or_not : (view : ContainerView) → OrNot (IsAwaited of_view view)
+pub awaited_or_not : (view : ContainerView) → OrNot (IsAwaited of_view view)
 awaited_or_not view =
     either (both (role_or_not Init view.role) (negated (completed_or_not view)))
     (either (both (role_or_not Sidecar view.role) (negated (true_or_not view.was_started)))
@@ -137,7 +137,7 @@ pub some_of_views : (policy : Policy) (views : List ContainerView) → (p : Phas
 some_of_views policy views = some_raw_phase of_view policy (view_decided policy) views
 
 -- so too by what each container has of its own
-stopped_or_not : (container : RestartView) → OrNot (HasStopped of_restart_view Wants container)
+pub stopped_or_not : (container : RestartView) → OrNot (HasStopped of_restart_view Wants container)
 stopped_or_not container = there (exit_code container.view) refl
   where
     there : (o : Option ℤ) → exit_code container.view ≡ o → OrNot (HasStopped of_restart_view Wants container)
@@ -148,7 +148,7 @@ stopped_or_not container = there (exit_code container.view) refl
       | inr none ↦ inl (record { code = code; exited = e; wants_none = none })
     ]
 
-for_good_or_not : (container : RestartView) → OrNot (HasFailedForGood of_restart_view Wants container)
+pub for_good_or_not : (container : RestartView) → OrNot (HasFailedForGood of_restart_view Wants container)
 for_good_or_not container = elim (both (role_or_not Init container.view.role)
     (both (failed_or_not container.view) (negated (true_or_not container.wants_restart)))) [
       | inl w ↦ inl (record { init = w.0; code = w.1.0.0; exited = w.1.0.1; failed = w.1.0.2; wants_none = w.1.1 })

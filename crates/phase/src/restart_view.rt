@@ -21,17 +21,18 @@ pub struct RestartView {
 
 impl RestartView {
     /// Whether the newest instance has exited and no restart follows.
-    fn has_stopped(&self) -> bool
+    pub fn has_stopped(&self) -> bool
         ensures { IsTrue result ↔ HasStopped of_restart_view Wants self.now }
     {
         self.view.exit_code().is_some() && !self.wants_restart
     }
-}
 
-fn has_failed_for_good(container: &RestartView) -> bool
-    ensures { IsTrue result ↔ HasFailedForGood of_restart_view Wants container.now }
-{
-    container.view.is_init() && container.view.has_failed() && !container.wants_restart
+    /// Whether it is an init container that has failed, and no restart follows.
+    pub fn has_failed_for_good(&self) -> bool
+        ensures { IsTrue result ↔ HasFailedForGood of_restart_view Wants self.now }
+    {
+        self.view.is_init() && self.view.has_failed() && !self.wants_restart
+    }
 }
 
 /// Whether it is no app container, or has stopped.
@@ -59,7 +60,7 @@ fn any_failed_for_good(containers: &[RestartView]) -> bool
 {
     containers
         .iter()
-        .any(|container| has_failed_for_good(container))
+        .any(|container| container.has_failed_for_good())
 }
 
 fn any_failed_app(containers: &[RestartView]) -> bool

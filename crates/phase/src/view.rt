@@ -45,7 +45,7 @@ impl ContainerView {
     }
 
     /// Whether it is an app container.
-    pub(crate) fn is_app(&self) -> bool
+    pub fn is_app(&self) -> bool
         ensures { IsTrue result ↔ of_view.is self.now App }
     {
         matches!(self.role, Role::App)
@@ -69,7 +69,7 @@ impl ContainerView {
     }
 
     /// Whether the newest instance has exited with 0.
-    pub(crate) fn has_completed(&self) -> bool
+    pub fn has_completed(&self) -> bool
         ensures { IsTrue result ↔ HasCompleted of_view self.now }
     {
         match self.exit_code() {
@@ -79,7 +79,7 @@ impl ContainerView {
     }
 
     /// Whether the newest instance has exited with a code other than 0.
-    pub(crate) fn has_failed(&self) -> bool
+    pub fn has_failed(&self) -> bool
         ensures { IsTrue result ↔ HasFailed of_view self.now }
     {
         match self.exit_code() {
@@ -100,7 +100,7 @@ impl ContainerView {
     }
 
     /// Whether the pod waits for it.
-    pub(crate) fn is_awaited(&self) -> bool
+    pub fn is_awaited(&self) -> bool
         ensures { IsTrue result ↔ IsAwaited of_view self.now }
     {
         match self.role {

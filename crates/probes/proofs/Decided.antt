@@ -17,12 +17,12 @@ use Rattle.probes.specs.rule.Container.{IsKillOrdered, IsInstanceReady}
 use Rattle.probes.proofs.Counted.{AreCounted-unique}
 use Rattle.probes.proofs.Determined.{passes_or_not, counted_of}
 
-success_or_not : (o : Outcome) → OrNot (o ≡ Success)
+pub success_or_not : (o : Outcome) → OrNot (o ≡ Success)
 success_or_not Success = inl refl
 success_or_not Failure = inr (λ e. cc)
 success_or_not Unknown = inr (λ e. cc)
 
-failure_or_not : (o : Outcome) → OrNot (o ≡ Failure)
+pub failure_or_not : (o : Outcome) → OrNot (o ≡ Failure)
 failure_or_not Failure = inl refl
 failure_or_not Success = inr (λ e. cc)
 failure_or_not Unknown = inr (λ e. cc)
@@ -39,7 +39,7 @@ result_or_not outcome told (Some o) = elim (told o) [
 ]
 
 -- a run of the outcome ends with the e-th result
-run_or_not : (outcome : Outcome) → IsTold outcome → (n : ℕ) (results : List Outcome) (e : ℕ)
+pub run_or_not : (outcome : Outcome) → IsTold outcome → (n : ℕ) (results : List Outcome) (e : ℕ)
     → OrNot (EndsRun outcome n results e)
 run_or_not outcome told n results e =
     elim (both (both (at_most_or_not e (length results)) (at_most_or_not n e)) all) [

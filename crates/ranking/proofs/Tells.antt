@@ -20,25 +20,25 @@ pub record Tells (before after : Type 0) (o : Ordering) : Type 0 where
   pub less : (o ≡ Less) ↔ before
   pub greater : (o ≡ Greater) ↔ after
 
-tells_less : (A B : Type 0) → A → (B → ⊥) → Tells A B Less
+pub tells_less : (A B : Type 0) → A → (B → ⊥) → Tells A B Less
 tells_less A B a n = record {
   less = ((λ _. a), (λ _. refl));
   greater = ((λ e. absurd (cc)), (λ b. absurd (n b)));
 }
 
-tells_greater : (A B : Type 0) → B → (A → ⊥) → Tells A B Greater
+pub tells_greater : (A B : Type 0) → B → (A → ⊥) → Tells A B Greater
 tells_greater A B b n = record {
   less = ((λ e. absurd (cc)), (λ a. absurd (n a)));
   greater = ((λ _. b), (λ _. refl));
 }
 
-tells_equal : (A B : Type 0) → (A → ⊥) → (B → ⊥) → Tells A B Equal
+pub tells_equal : (A B : Type 0) → (A → ⊥) → (B → ⊥) → Tells A B Equal
 tells_equal A B m n = record {
   less = ((λ e. absurd (cc)), (λ a. absurd (m a)));
   greater = ((λ e. absurd (cc)), (λ b. absurd (n b)));
 }
 
-tells_first : (A B : PodStatus → PodStatus → Type 0) (p q : PodStatus) (o r : Ordering)
+pub tells_first : (A B : PodStatus → PodStatus → Type 0) (p q : PodStatus) (o r : Ordering)
     → Tells (A p q) (A q p) o → Tells (B p q) (B q p) r → Tells (First A B p q) (First A B q p) (ordering_then o r)
 tells_first A B p q Less r s t =
     let a : A p q = s.less.0 refl in
@@ -72,7 +72,7 @@ tells_int_by x y Greater m = tells_greater (x <ℤ y) (y <ℤ x) m (λ a. omega 
 pub tells_int : (x y : ℤ) → Tells (x <ℤ y) (y <ℤ x) (int_cmp x y)
 tells_int x y = tells_int_by x y (int_cmp x y) (int_ranked x y (int_cmp x y) refl)
 
-tells_as : (A B C D : Type 0) (o : Ordering) → (A ↔ C) → (B ↔ D) → Tells A B o → Tells C D o
+pub tells_as : (A B C D : Type 0) (o : Ordering) → (A ↔ C) → (B ↔ D) → Tells A B o → Tells C D o
 tells_as A B C D o ac bd t = record {
   less = ((λ e. ac.0 (t.less.0 e)), (λ c. t.less.1 (ac.1 c)));
   greater = ((λ e. bd.0 (t.greater.0 e)), (λ d. t.greater.1 (bd.1 d)));
@@ -84,7 +84,7 @@ then_assoc Equal r s = refl
 then_assoc Greater r s = refl
 
 -- by u - r and v - s: first by how much each is above 0, then by how much it is below
-tells_margin : (u r v s : ℕ)
+pub tells_margin : (u r v s : ℕ)
     → Tells (v + r < u + s) (u + s < v + r) (ordering_then (nat_cmp (v - s) (u - r)) (nat_cmp (r - u) (s - v)))
 tells_margin u r v s =
     by (nat_cmp (v - s) (u - r)) (nat_cmp (r - u) (s - v)) (tells_nat (v - s) (u - r)) (tells_nat (r - u) (s - v))
@@ -126,7 +126,7 @@ alone_by u r v s = by (leb u r) (leb v s) (decides_le u r) (decides_le v s)
         tells_greater _ _ (refl, above v s b, λ lt. omega arith) (λ w. let lt : r < u = w.1 in omega arith)
 
 -- the first criterion
-tells_alone : (asked : Bool) (u r v s : ℕ)
+pub tells_alone : (asked : Bool) (u r v s : ℕ)
     → Tells (Alone asked u r v s) (Alone asked v s u r) (bool_cmp (asked && leb u r) (asked && leb v s))
 tells_alone true u r v s = alone_by u r v s
 tells_alone false u r v s =
@@ -136,7 +136,7 @@ tells_alone false u r v s =
 abbrev SetAlone : Bool → Bool → Type 0
 SetAlone a b = IsTrue a × (IsTrue b → ⊥)
 
-tells_set : (a b : Bool) → Tells (SetAlone a b) (SetAlone b a) (bool_cmp (not a) (not b))
+pub tells_set : (a b : Bool) → Tells (SetAlone a b) (SetAlone b a) (bool_cmp (not a) (not b))
 tells_set true true = tells_equal _ _ (λ w. w.1 refl) (λ w. w.1 refl)
 tells_set false false = tells_equal _ _ (λ w. w.1 w.0) (λ w. w.1 w.0)
 tells_set true false =
@@ -145,7 +145,7 @@ tells_set false true =
     tells_greater _ _ (refl, λ e. let f : false ≡ true = e in cc) (λ w. let f : false ≡ true = w.0 in cc)
 
 -- where that is asked
-tells_asked : (asked a b : Bool)
+pub tells_asked : (asked a b : Bool)
     → Tells (IsTrue asked × SetAlone a b) (IsTrue asked × SetAlone b a) (bool_cmp (asked && not a) (asked && not b))
 tells_asked true a b =
     tells_as _ _ _ _ _ ((λ w. (refl, w)), (λ w. w.1)) ((λ w. (refl, w)), (λ w. w.1)) (tells_set a b)

@@ -29,7 +29,7 @@ fn local_storage(usage: &Usage) -> u128
 }
 
 /// What a pod uses of what the signal measures, in thousandths.
-pub(crate) fn used(usage: &Usage, signal: Signal, has_dedicated_imagefs: bool) -> u128
+pub fn used(usage: &Usage, signal: Signal, has_dedicated_imagefs: bool) -> u128
     ensures { result ≡ used signal has_dedicated_imagefs usage.now }
 {
     match signal {
@@ -54,7 +54,7 @@ pub(crate) fn used(usage: &Usage, signal: Signal, has_dedicated_imagefs: bool) -
 }
 
 /// What a pod requests of what the signal measures, in thousandths: of inodes and processes 0.
-pub(crate) fn requested(requests: &EffectiveRequests, signal: Signal) -> u128
+pub fn requested(requests: &EffectiveRequests, signal: Signal) -> u128
     ensures { result ≡ requested signal requests.now }
 {
     match signal {

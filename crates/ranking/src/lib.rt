@@ -10,5 +10,6 @@ mod key;
 pub mod laws;
 mod present;
 
+pub use amounts::{requested, used};
 pub use index::RankIndex;
 pub use key::{RankKey, rank_key};

@@ -1,9 +1,12 @@
 -- The statuses of a pod's conditions that an entry says.
-use Rattle.std.proofs.Common.{◌≡◌, ◌∙◌, ◌&&◌, ℕ, Bool, true, false, List, ◌∷◌, Option, Some, None, refl, ap, sym, subst}
+use Rattle.std.proofs.Common.{◌≡◌, ◌∙◌, ◌&&◌, ◌++◌, ℕ, Bool, true, false, List, [], ◌∷◌, Option, Some, None}
+use Rattle.std.proofs.Common.{map, String, Global, string_bytes, string_cmp, option_map, append_assoc, refl, ap, sym, subst}
+use Rattle.std.specs.BTreeMap.{insert_entry}
 use Rattle.std.proofs.Common.{Ordering, Less, Equal, Greater, nat_cmp}
 use Rattle.std.specs.Prelude.{◌↔◌, IsTrue, codes, if◌then◌else◌}
 use Rattle.std.specs.Ordering.{match_ordering}
-use Rattle.serde_json.specs.Find.{as_object}
+use Rattle.serde_json.specs.Find.{as_bool, as_object}
+use Rattle.serde_json.specs.View.{members_of}
 use Rattle.std.specs.Cmp.Lexicographic.{slice_cmp}
 use Rattle.json.specs.Json as json
 use Rattle.serde_json.specs.Data.{Data, null, boolean, number, string, array, object, Members, no_members, member, put}
@@ -14,8 +17,9 @@ use Rattle.tick_lines.specs.declared.conditions.ConditionsMember.TheVariants as 
 use Rattle.tick_lines.specs.rule.Statuses.{is_status, are_all_statuses, are_statuses}
 use Rattle.tick_lines.specs.rule.Conditions.{conditions_of}
 use Rattle.tick_lines.specs.rule.Resizes.{names_in, names_from}
-use Rattle.tick_lines.specs.rule.Statuses.{statuses_from}
-use Rattle.tick_lines.specs.state.Conditions.{status_data, members_statuses, if_statuses}
+use Rattle.tick_lines.specs.rule.Statuses.{statuses_in, statuses_from}
+use Rattle.tick_lines.specs.state.Conditions.{status_data, members_statuses, all_statuses, if_statuses}
+use Rattle.tick_lines.specs.state.Conditions.{given_data, given_members}
 use Rattle.tick_lines.specs.state.Laws.{SaysStatuses, ConditionsSaid}
 use Rattle.tick_lines.proofs.Parts.{entry_parts}
 
@@ -56,51 +60,63 @@ all_same no_members = refl
 all_same (member k d ms) =
     ap (λ b. b && are_all_statuses (statuses ms)) (status_same d) ∙ ap (λ b. is_status d && b) (all_same ms)
 
-status_kept : (d : Data) → is_status d ≡ true → status_data d ≡ d
-status_kept null e = refl
-status_kept (boolean b) e = refl
-status_kept (number n) e = absurd (let e : false ≡ true = e in cc)
-status_kept (string s) e = absurd (let e : false ≡ true = e in cc)
-status_kept (array ds) e = absurd (let e : false ≡ true = e in cc)
-status_kept (object ms) e = absurd (let e : false ≡ true = e in cc)
+bool_same : (d : Data) → as_bool (status_data d) ≡ as_bool d
+bool_same null = refl
+bool_same (boolean b) = refl
+bool_same (number n) = refl
+bool_same (string s) = refl
+bool_same (array ds) = refl
+bool_same (object ms) = refl
 
-both : (a b : Bool) → (a && b) ≡ true → (a ≡ true) × (b ≡ true)
-both true true e = (refl, refl)
-both true false e = absurd (let e : false ≡ true = e in cc)
-both false b e = absurd (let e : false ≡ true = e in cc)
+in_same : (ms : Members) → statuses_in (statuses ms) ≡ statuses_in ms
+in_same no_members = refl
+in_same (member k d ms) =
+    ap (λ b. (k, b) ∷ statuses_in (statuses ms)) (bool_same d) ∙ ap (λ rest. (k, as_bool d) ∷ rest) (in_same ms)
 
-all_kept : (ms : Members) → are_all_statuses ms ≡ true → statuses ms ≡ ms
-all_kept no_members e = refl
-all_kept (member k d ms) e =
-    let parts = both (is_status d) (are_all_statuses ms) e in
-    ap (λ d. member k d (statuses ms)) (status_kept d parts.0) ∙ ap (λ ms. member k d ms) (all_kept ms parts.1)
-
--- the members that were kept are all statuses where those of the line are
-kept_or_not : (ms : json.Members) (kept : Members) → kept ≡ members_statuses ms no_members
-    → are_all_statuses kept ≡ are_statuses (data_of (json.object ms))
-kept_or_not ms kept e =
-    ap are_all_statuses (e ∙ statuses_are ms no_members) ∙ all_same (members_data ms no_members)
-
--- and then they are those of the line
-kept_same : (ms : json.Members) (kept : Members) → kept ≡ members_statuses ms no_members
-    → are_all_statuses kept ≡ true → object kept ≡ data_of (json.object ms)
-kept_same ms kept e all =
-    let same = e ∙ statuses_are ms no_members in
-    ap object (same ∙ all_kept (members_data ms no_members)
-    (sym (all_same (members_data ms no_members)) ∙ sym (ap are_all_statuses same) ∙ all))
-
+-- the statuses that were kept are those of the line's members
 pub borrowed_found : (ms : json.Members) (kept : Members) → kept ≡ members_statuses ms no_members
-    → are_all_statuses kept ≡ true → Some (object kept) ≡ if_statuses (data_of (json.object ms))
-borrowed_found ms kept e all =
-    let d = data_of (json.object ms) in
-    ap (λ (d : Data). Some d) (kept_same ms kept e all)
-    ∙ sym (ap (λ b. if b then Some d else None) (sym (kept_or_not ms kept e) ∙ all))
+    → all_statuses kept ≡ if_statuses (data_of (json.object ms))
+borrowed_found ms kept e =
+    let found = members_data ms no_members in
+    ap all_statuses (e ∙ statuses_are ms no_members)
+    ∙ ap (λ b. if b then Some (statuses_in (statuses found)) else None) (all_same found)
+    ∙ ap (λ list. if are_all_statuses found then Some list else None) (in_same found)
 
-pub borrowed_other : (ms : json.Members) (kept : Members) → kept ≡ members_statuses ms no_members
-    → are_all_statuses kept ≡ false → None ≡ if_statuses (data_of (json.object ms))
-borrowed_other ms kept e not =
-    let d = data_of (json.object ms) in
-    sym (ap (λ b. if b then Some d else None) (sym (kept_or_not ms kept e) ∙ not))
+-- one more member that gives a status
+pub added : (k : List ℕ) (status : Option Bool) (ms : Members) (list : List (List ℕ × Option Bool))
+    → option_map (λ rest. list ++ rest) (all_statuses (member k (given_data (Some status)) ms))
+    ≡ option_map (λ rest. (list ++ (k, status) ∷ []) ++ rest) (all_statuses ms)
+added k None ms list = by (are_all_statuses ms)
+  where
+    by : (b : Bool) → option_map (λ rest. list ++ rest) (if b then Some ((k, None) ∷ statuses_in ms) else None)
+        ≡ option_map (λ rest. (list ++ (k, None) ∷ []) ++ rest) (if b then Some (statuses_in ms) else None)
+    by true = ap (λ rest. Some rest) (sym (append_assoc list ((k, None) ∷ []) (statuses_in ms)))
+    by false = refl
+added k (Some truth) ms list = by (are_all_statuses ms)
+  where
+    by : (b : Bool) → option_map (λ rest. list ++ rest) (if b then Some ((k, Some truth) ∷ statuses_in ms) else None)
+        ≡ option_map (λ rest. (list ++ (k, Some truth) ∷ []) ++ rest) (if b then Some (statuses_in ms) else None)
+    by true = ap (λ rest. Some rest) (sym (append_assoc list ((k, Some truth) ∷ []) (statuses_in ms)))
+    by false = refl
+
+-- noting what a name gives
+noted-match : (o : Ordering) (a b c : List (String Global × Option (Option Bool)))
+    → given_members (match_ordering o a b c) ≡ match_ordering o (given_members a) (given_members b) (given_members c)
+noted-match Less a b c = refl
+noted-match Equal a b c = refl
+noted-match Greater a b c = refl
+
+pub noted : (es : List (String Global × Option (Option Bool))) (k : String Global) (given : Option (Option Bool))
+    → given_members (insert_entry string_cmp es k given)
+    ≡ put (string_bytes k) (given_data given) (given_members es)
+noted [] k given = refl
+noted (e ∷ es) k given = noted-match (string_cmp k e.0) _ _ _ ∙ rw (noted es k given)
+
+-- the keys are the members' names
+pub keys_are_names : {T : Type 0} (f : T → Data) (es : List (String Global × T))
+    → map (λ e. string_bytes e.0) es ≡ names_in (members_of (map (λ e. (e.0, f e.1)) es))
+keys_are_names f [] = refl
+keys_are_names f (e ∷ es) = ap (λ names. string_bytes e.0 ∷ names) (keys_are_names f es)
 
 names_same : (ms : Members) → names_in (statuses ms) ≡ names_in ms
 names_same no_members = refl

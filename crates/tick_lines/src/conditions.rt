@@ -11,13 +11,15 @@ ghost use Rattle.tick_lines.specs.rule.Statuses.{is_status, are_all_statuses, ar
 ghost use Rattle.tick_lines.specs.rule.Conditions.{conditions_of};
 ghost use Rattle.tick_lines.specs.rule.Resizes.{names_from};
 ghost use Rattle.tick_lines.specs.rule.Statuses.{status_of, statuses_in, statuses_from};
-ghost use Rattle.tick_lines.specs.state.Conditions.{status_data, members_statuses, if_statuses};
+ghost use Rattle.tick_lines.specs.state.Conditions.{status_data, members_statuses, all_statuses, if_statuses};
+ghost use Rattle.tick_lines.specs.state.Conditions.{given_data, given_members};
 
-use crate::resizes::names_of;
+use crate::resizes::keys_of;
 use crate::value::TickValue;
 use json::Value as BorrowedValue;
 use serde_json::{Map, Value};
 use std::alloc::{AllocError, Allocator, Global};
+use std::collections::BTreeMap;
 use std::marker::Model;
 
 /// A condition's type and its status, if it has one. Contracts see the type's bytes and the status.
@@ -37,15 +39,13 @@ impl Model for ConditionStatus {
 
 impl ConditionStatus {
     ghost use Rattle.std.specs.Prelude.{◌≡◌, bytes_eq, IfOk};
-    ghost use Rattle.serde_json.specs.Find.{as_bool};
-    ghost use Rattle.serde_json.specs.View.{view};
 
-    fn new(alloc: Global, name: &str, value: &Value) -> Result<ConditionStatus, AllocError>
-        ensures { IfOk result (λ s. s ≡ (name.now, as_bool (view value.now))) }
+    fn new(alloc: Global, name: &str, status: Option<bool>) -> Result<ConditionStatus, AllocError>
+        ensures { IfOk result (λ s. s ≡ (name.now, status)) }
     {
         Ok(ConditionStatus {
             name: String::from_str(alloc, name)?,
-            status: value.as_bool(),
+            status,
         })
     }
 
@@ -77,18 +77,8 @@ impl Model for ConditionStatuses {
 }
 
 impl ConditionStatuses {
-    ghost use Rattle.std.specs.Prelude.{◌≡◌, IfOk};
-    ghost use Rattle.serde_json.specs.Find.{as_object};
-    ghost use Rattle.serde_json.specs.View.{view};
-    ghost use Rattle.tick_lines.specs.rule.Statuses.{status_of, statuses_from};
-
-    pub(crate) fn new(alloc: Global, object: &Value) -> Result<ConditionStatuses, AllocError>
-        ensures { IfOk result (λ s. s ≡ statuses_from (as_object (view object.now))) }
-    {
-        Ok(ConditionStatuses {
-            list: statuses_from(alloc, object.as_object())?,
-        })
-    }
+    ghost use Rattle.std.specs.Prelude.{◌≡◌};
+    ghost use Rattle.tick_lines.specs.rule.Statuses.{status_of};
 
     /// The status of the condition of this type, if there is one.
     pub fn status(&self, name: &str) -> Option<bool>
@@ -107,7 +97,7 @@ fn statuses_of_members(
 {
     let mut list = Vec::new(alloc);
     for (name, value) in members.iter() {
-        list.push(ConditionStatus::new(alloc, name.as_str(), value)?)?;
+        list.push(ConditionStatus::new(alloc, name.as_str(), value.as_bool())?)?;
     }
     Ok(list)
 }
@@ -176,58 +166,66 @@ fn are_statuses(value: &Value) -> bool
     }
 }
 
-/// A copy of the value, if it is an object of true, false and null.
-pub(crate) fn statuses_in(value: &Value) -> Result<Option<Value>, AllocError>
-    ensures { IfOk result (λ found. option_map view found ≡ if_statuses (view value.now)) }
+/// The statuses that a value gives, if it is an object of true, false and null.
+pub(crate) fn statuses_in(
+    alloc: Global,
+    value: &Value,
+) -> Result<Option<ConditionStatuses>, AllocError>
+    ensures { IfOk result (λ found. found ≡ if_statuses (view value.now)) }
 {
     if !are_statuses(value) {
         return Ok(None);
     }
-    Ok(Some(value.clone()?))
+    Ok(Some(ConditionStatuses {
+        list: statuses_from(alloc, value.as_object())?,
+    }))
 }
 
-/// True, false and null as they are, and a text for any other value.
-fn status_here<A: Allocator>(alloc: Global, value: &BorrowedValue<'_, A>) -> Value
-    ensures { view result ≡ status_data (data_of (value_view value.now)) }
+/// What a member gives: true, false or null, or nothing where the value is another one.
+type Given = Option<Option<bool>>;
+
+/// What a value gives whose texts are in the line.
+fn given_by<A: Allocator>(value: &BorrowedValue<'_, A>) -> Given
+    ensures { given_data result ≡ status_data (data_of (value_view value.now)) }
 {
     match value {
-        BorrowedValue::Null => Value::Null,
-        BorrowedValue::Bool(truth) => Value::Bool(*truth),
-        _ => Value::String(String::new(alloc)),
+        BorrowedValue::Null => Some(None),
+        BorrowedValue::Bool(truth) => Some(Some(*truth)),
+        _ => None,
     }
 }
 
-/// Sets the status of a name.
-fn note_status(
-    statuses: &mut Map<String, Value>,
+/// Sets what a name gives.
+// This map is not one of JSON values: the reader's own insertion keeps a single caller, and stays inlined.
+fn note_given(
+    noted: &mut BTreeMap<String, Given>,
     name: String,
-    status: Value,
+    given: Given,
 ) -> Result<(), AllocError>
-    ensures { OnOk result (members_view statuses.new.entries
-        ≡ put (string_bytes name) (view status) (members_view statuses.old.entries)) }
+    ensures { OnOk result (given_members noted.new.entries
+        ≡ put (string_bytes name) (given_data given) (given_members noted.old.entries)) }
 {
-    drop(statuses.insert(name, status)?);
+    noted.insert(name, given)?;
     Ok(())
 }
 
-/// The members, each with its status. The last one of a name counts.
-fn statuses_of<A: Allocator>(
+/// What each name gives. The last member of a name counts.
+fn given_in<A: Allocator>(
     alloc: Global,
     members: &[(&str, BorrowedValue<'_, A>)],
-) -> Result<Map<String, Value>, AllocError>
-    ensures { IfOk result (λ m. members_view m.entries
+) -> Result<BTreeMap<String, Given>, AllocError>
+    ensures { IfOk result (λ m. given_members m.entries
         ≡ members_statuses (borrowed_members_view members.now) no_members) }
 {
-    let mut statuses = Map::new(alloc);
+    let mut noted = BTreeMap::new(alloc);
     for member in members {
         let name = String::from_str(alloc, member.0)?;
-        note_status(&mut statuses, name, status_here(alloc, &member.1))?;
+        note_given(&mut noted, name, given_by(&member.1))?;
     }
-    Ok(statuses)
+    Ok(noted)
 }
 
 /// The names of an object's members whose texts are in the line, each of them once.
-#[tactic(auto, using(crate::proofs::Statuses::borrowed_names))]
 fn borrowed_names_of<A: Allocator>(
     alloc: Global,
     members: &[(&str, BorrowedValue<'_, A>)],
@@ -235,7 +233,8 @@ fn borrowed_names_of<A: Allocator>(
     ensures { IfOk result (λ names. map string_bytes names.items
         ≡ names_from (as_object (data_of (borrowed.object (borrowed_members_view members.now))))) }
 {
-    names_of(alloc, &statuses_of(alloc, members)?)
+    let noted = given_in(alloc, members)?;
+    keys_of(alloc, &noted)
 }
 
 /// The names of the members of a value whose texts are in the line; none if it is no object.
@@ -252,28 +251,47 @@ pub(crate) fn borrowed_names_in<A: Allocator>(
     }
 }
 
-/// A copy of an object whose texts are in the line, if it is one of true, false and null.
-#[tactic(auto, using(crate::proofs::Statuses::borrowed_found, crate::proofs::Statuses::borrowed_other))]
+/// The statuses by name, if every member gives one.
+#[tactic(auto, using(crate::proofs::Statuses::added))]
+fn all_given(
+    alloc: Global,
+    noted: &BTreeMap<String, Given>,
+) -> Result<Option<Vec<ConditionStatus>>, AllocError>
+    ensures { IfOk result (λ found. option_map (λ l. l.items) found
+        ≡ all_statuses (given_members noted.now.entries)) }
+{
+    let mut list = Vec::new(alloc);
+    for (name, given) in noted.iter() {
+        let Some(status) = given else {
+            return Ok(None);
+        };
+        list.push(ConditionStatus::new(alloc, name.as_str(), *status)?)?;
+    }
+    Ok(Some(list))
+}
+
+/// The statuses that an object gives whose texts are in the line, if it is one of true, false and null.
+#[tactic(auto, using(crate::proofs::Statuses::borrowed_found))]
 fn object_of<A: Allocator>(
     alloc: Global,
     members: &[(&str, BorrowedValue<'_, A>)],
-) -> Result<Option<Value>, AllocError>
-    ensures { IfOk result (λ found. option_map view found ≡ if_statuses
-        (data_of (borrowed.object (borrowed_members_view members.now)))) }
+) -> Result<Option<ConditionStatuses>, AllocError>
+    ensures { IfOk result (λ found. found
+        ≡ if_statuses (data_of (borrowed.object (borrowed_members_view members.now)))) }
 {
-    let statuses = statuses_of(alloc, members)?;
-    if !are_all_statuses(&statuses) {
-        return Ok(None);
+    let noted = given_in(alloc, members)?;
+    match all_given(alloc, &noted)? {
+        Some(list) => Ok(Some(ConditionStatuses { list })),
+        None => Ok(None),
     }
-    Ok(Some(Value::Object(statuses)))
 }
 
-/// A copy of a value whose texts are in the line, if it is an object of true, false and null.
+/// The statuses that a value gives whose texts are in the line, if it is an object of true, false and null.
 pub(crate) fn borrowed_statuses_in<A: Allocator>(
     alloc: Global,
     value: &BorrowedValue<'_, A>,
-) -> Result<Option<Value>, AllocError>
-    ensures { IfOk result (λ found. option_map view found ≡ if_statuses (data_of (value_view value.now))) }
+) -> Result<Option<ConditionStatuses>, AllocError>
+    ensures { IfOk result (λ found. found ≡ if_statuses (data_of (value_view value.now))) }
 {
     match value {
         BorrowedValue::Object(members) => object_of(alloc, members),
@@ -292,7 +310,7 @@ pub(crate) fn conditions_of<V: TickValue>(
         return Ok(ConditionsMember::Missing);
     };
     match value.statuses(alloc)? {
-        Some(object) => Ok(ConditionsMember::Statuses(ConditionStatuses::new(alloc, &object)?)),
+        Some(statuses) => Ok(ConditionsMember::Statuses(statuses)),
         None => Ok(ConditionsMember::OfOtherKind),
     }
 }

@@ -16,6 +16,7 @@ use manifest::{Resources, Text};
 use manifest_fields::resources_of;
 use serde_json::{Map, Value};
 use std::alloc::{AllocError, Global};
+use std::collections::BTreeMap;
 
 /// The requests and limits that an entry gives a container from its tick on.
 #[derive(Drop)]
@@ -37,6 +38,21 @@ pub enum ResizedMember {
     OfOtherKind,
 }
 
+/// A map's keys, in their order.
+pub(crate) fn keys_of<T>(
+    alloc: Global,
+    members: &BTreeMap<String, T>,
+) -> Result<Vec<String>, AllocError>
+    ensures { IfOk result (λ names. map string_bytes names.items
+        ≡ map (λ m. string_bytes m.0) members.now.entries) }
+{
+    let mut names = Vec::new(alloc);
+    for (name, _) in members.iter() {
+        names.push(String::from_str(alloc, name.as_str())?)?;
+    }
+    Ok(names)
+}
+
 /// The names of the members, in the members' order.
 pub(crate) fn names_of(
     alloc: Global,
@@ -44,11 +60,7 @@ pub(crate) fn names_of(
 ) -> Result<Vec<String>, AllocError>
     ensures { IfOk result (λ names. map string_bytes names.items ≡ names_in (members_view members.now.entries)) }
 {
-    let mut names = Vec::new(alloc);
-    for (name, _) in members.iter() {
-        names.push(String::from_str(alloc, name.as_str())?)?;
-    }
-    Ok(names)
+    keys_of(alloc, members)
 }
 
 /// The requests and limits that a member gives.

@@ -1,6 +1,6 @@
 //! The JSON values that a tick line is read from.
 
-use crate::conditions::{borrowed_names_in, borrowed_statuses_in, statuses_in};
+use crate::conditions::{ConditionStatuses, borrowed_names_in, borrowed_statuses_in, statuses_in};
 use crate::resizes::names_of;
 use json::Value as BorrowedValue;
 use json_fields::Json;
@@ -9,9 +9,8 @@ use std::alloc::{AllocError, Allocator, Global};
 
 /// A JSON value that also shows its truth value, the statuses that it has, and the names of its members.
 pub trait TickValue: Json {
-    ghost use Rattle.std.specs.Prelude.{◌≡◌, map, option_map, IfOk, string_bytes};
+    ghost use Rattle.std.specs.Prelude.{◌≡◌, map, IfOk, string_bytes};
     ghost use Rattle.serde_json.specs.Find.{as_bool, as_object};
-    ghost use Rattle.serde_json.specs.View.{view};
     ghost use Rattle.tick_lines.specs.rule.Resizes.{names_from};
     ghost use Rattle.tick_lines.specs.state.Conditions.{if_statuses};
 
@@ -19,9 +18,9 @@ pub trait TickValue: Json {
     fn truth(&self) -> Option<bool>
         ensures { result ≡ as_bool (Self.data self.now) };
 
-    /// A copy of this, if it is an object of true, false and null.
-    fn statuses(&self, alloc: Global) -> Result<Option<Value>, AllocError>
-        ensures { IfOk result (λ found. option_map view found ≡ if_statuses (Self.data self.now)) };
+    /// The statuses that this gives, if it is an object of true, false and null.
+    fn statuses(&self, alloc: Global) -> Result<Option<ConditionStatuses>, AllocError>
+        ensures { IfOk result (λ found. found ≡ if_statuses (Self.data self.now)) };
 
     /// The names of this object's members; none if it is no object.
     fn names(&self, alloc: Global) -> Result<Vec<String>, AllocError>
@@ -33,8 +32,8 @@ impl TickValue for Value {
         self.as_bool()
     }
 
-    fn statuses(&self, _alloc: Global) -> Result<Option<Value>, AllocError> {
-        statuses_in(self)
+    fn statuses(&self, alloc: Global) -> Result<Option<ConditionStatuses>, AllocError> {
+        statuses_in(alloc, self)
     }
 
     fn names(&self, alloc: Global) -> Result<Vec<String>, AllocError> {
@@ -50,7 +49,7 @@ impl<'a, A: Allocator> TickValue for BorrowedValue<'a, A> {
         self.as_bool()
     }
 
-    fn statuses(&self, alloc: Global) -> Result<Option<Value>, AllocError> {
+    fn statuses(&self, alloc: Global) -> Result<Option<ConditionStatuses>, AllocError> {
         borrowed_statuses_in(alloc, self)
     }
 
