@@ -7,5 +7,5 @@ mod own;
 mod wanted;
 
 pub use backoff::Backoff;
-pub use own::{policy_after, wants_restart_by};
+pub use own::{matches, policy_after, wants_restart_by};
 pub use wanted::wants_restart;

@@ -22,8 +22,8 @@ fn passes(operator: ExitCodeOperator, values: &[i32], code: i32) -> bool
     }
 }
 
-/// Whether the rule matches the code.
-fn matches(rule: &RestartRule, code: i32) -> bool
+/// Whether the rule matches the code. (Kubernetes, "Pod Lifecycle", "Individual container restart policy and rules".)
+pub fn matches(rule: &RestartRule, code: i32) -> bool
     ensures { result ≡ matches code rule.now }
 {
     passes(rule.operator, rule.values.as_slice(), code)
