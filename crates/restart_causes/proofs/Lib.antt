@@ -1,0 +1,3 @@
+pub mod CountLemmas
+pub mod DelayLemmas
+pub mod DecisionLemmas

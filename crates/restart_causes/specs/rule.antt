@@ -1,0 +1,2 @@
+pub mod ExitCounts
+pub mod Decisions
