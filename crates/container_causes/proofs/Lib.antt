@@ -5,3 +5,4 @@ pub mod CauseLemmas
 pub mod ReadinessLemmas
 pub mod LookedUpLemmas
 pub mod ListingLemmas
+pub mod CountedLemmas

@@ -1,3 +1,4 @@
 pub mod Listings
 pub mod Watched
 pub mod Laws
+pub mod Exits

@@ -5,11 +5,13 @@
 //! `Container` does, and keeps what the causes need of the past.
 #![tactic(auto)]
 
+mod exits;
 mod instance_results;
 pub mod laws;
 mod listing_causes;
 mod looked_up;
 mod watched_container;
 
+pub use exits::LastExit;
 pub use listing_causes::{Exited, Listed, Unlisted};
 pub use watched_container::WatchedContainer;

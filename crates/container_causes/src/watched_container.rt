@@ -4,18 +4,20 @@ ghost use Rattle.std.specs.Prelude.{◌≡◌, ◌<◌, ℕ, ℤ, List, [], ◌�
 ghost use Rattle.quantity.specs.rule.Duration.{end_of_time};
 ghost use Rattle.histories.specs.rule.Histories.{recorded};
 ghost use Rattle.manifest.specs.declared.pod.ContainerSpec.{ContainerSpec as AContainerSpec};
-ghost use Rattle.state_diff.specs.rule.Instances.{IsNewest, IsExit, killed_code};
+ghost use Rattle.state_diff.specs.rule.Instances.{IsNewest, IsExit, IsExitCode, killed_code};
 ghost use Rattle.containers.specs.declared.pod_event_kind.PodEventKind.TheVariants.{Kill, StartupPassed, Ready, Unready};
 ghost use Rattle.containers.specs.declared.pod_event_kind.PodEventKind.TheVariants.{Died, Started};
 ghost use Rattle.containers.specs.rule.Ticks.{ContainerTick, listings};
 ghost use Rattle.containers.specs.rule.Events.{AreEvents, IsKilled, Passes, ChangesReadiness};
 ghost use Rattle.containers.specs.rule.Events.{IsGone, HasStarted, HasDied};
 ghost use Rattle.containers.specs.state.Container.{Accepts, IsBefore};
+ghost use Rattle.container_causes.specs.rule.Exits.{IsLastExit, IsCounted};
 ghost use Rattle.container_causes.specs.rule.Listings.{IsUnlisted, IsListed, IsExited};
 ghost use Rattle.container_causes.specs.rule.Results.{AreKillFailures, AreReadySuccesses, AreUnreadyFailures};
 ghost use Rattle.container_causes.specs.rule.Results.{IsStartupSuccess, IsPassMoment};
 ghost use Rattle.container_causes.specs.state.Watched.{IsWatchedOf, RunsOn};
 
+use crate::exits::{LastExit, count_exits, last_exit_of};
 use crate::instance_results::{InstanceResults, begin, take_results, takes_results};
 use crate::listing_causes::{
     Exited, KeptTick, Listed, Unlisted, listing_of, moment_of, run_of, unlisted_by,
@@ -27,6 +29,7 @@ use containers::{Container, ContainerEvents};
 use manifest::{ContainerSpec, MaxRestartDelay, OwnRestarts, Policy, Probes};
 use observations::ContainerObs;
 use probes::Cause;
+use restart_causes::ExitCount;
 use std::alloc::{AllocError, Global};
 
 /// A container, as its ticks so far leave it, with the moments of its newest instance's results.
@@ -36,6 +39,7 @@ pub struct WatchedContainer {
     probes: Probes,
     container: Container,
     instance: Option<InstanceResults>,
+    count: Option<ExitCount>,
     before: Option<KeptTick>,
     last: Option<KeptTick>,
 }
@@ -50,6 +54,7 @@ impl WatchedContainer {
             probes: spec.probes,
             container: Container::new(spec, max_restart_delay),
             instance: None,
+            count: None,
             before: None,
             last: None,
         }
@@ -77,8 +82,18 @@ impl WatchedContainer {
             → IsWatchedOf spec max_restart_delay h self.old
             → AreEvents policy max_restart_delay spec (h ++ recorded at observed ∷ []) (length h) events) }
     {
+        let start = self.container.differ().first_running();
         let events = self.container.step(policy, own, at, observed);
-        let takes = takes_results(observed.seen, self.container.differ().newest());
+        let differ = self.container.differ();
+        self.count = count_exits(
+            self.count,
+            events.gone,
+            start,
+            events.died,
+            differ.run(),
+            at,
+        );
+        let takes = takes_results(observed.seen, differ.newest());
         begin(
             &mut self.instance,
             self.alloc,
@@ -147,6 +162,26 @@ impl WatchedContainer {
             → IsStartupSuccess spec a (h ++ x ∷ []) result }
     {
         startup_count_of(&self.instance)
+    }
+
+    /// The exit of the newest instance, where it has exited.
+    pub fn last_exit(&self) -> Option<LastExit>
+        ensures { (spec : AContainerSpec) (max_restart_delay : ℕ) (h : List ContainerTick) (a : ℕ) (code : ℤ)
+            → IsWatchedOf spec max_restart_delay h self.now
+            → IsNewest (listings h) a → IsExitCode (listings h) a code
+            → IsSomeAnd result (λ cause. (cause.attempt ≡ a) × IsLastExit h cause) }
+    {
+        let differ = self.container.differ();
+        last_exit_of(differ.newest(), differ.exited_at())
+    }
+
+    /// Which exits count towards the delay after the last one, where there is one.
+    pub fn exit_count(&self) -> Option<ExitCount>
+        ensures { (spec : AContainerSpec) (max_restart_delay : ℕ) (h : List ContainerTick) (a t : ℕ)
+            → IsWatchedOf spec max_restart_delay h self.now → IsExit (listings h) a t
+            → IsSomeAnd result (IsCounted h) }
+    {
+        self.count
     }
 
     /// Why an instance died that the tick that was taken last no longer lists, where it has that event.

@@ -11,6 +11,7 @@ use Rattle.containers.specs.declared.pod_event_kind.PodEventKind.{PodEventKind}
 use Rattle.containers.specs.declared.pod_event_kind.PodEventKind.TheVariants.{Started, StartupPassed}
 use Rattle.containers.specs.rule.Ticks.{ContainerTick, listings, AreTicksOf, StartsAt}
 use Rattle.containers.specs.state.Container.{IsStateOf}
+use Rattle.container_causes.specs.state.Exits.{IsCountKept}
 use Rattle.container_causes.specs.declared.instance_results.InstanceResults.{InstanceResults}
 use Rattle.container_causes.specs.rule.Listings.{IsLastTick}
 use Rattle.container_causes.specs.declared.listing_causes.KeptTick.{KeptTick}
@@ -48,6 +49,7 @@ pub record IsWatchedOf (spec : ContainerSpec) (max_restart_delay : ℕ) (h : Lis
   pub follows : watched.probes ≡ spec.probes
   pub results : AreResultsOf spec h watched.instance
   pub runs_on : RunsOn h
+  pub count : IsCountKept h watched.count
   pub last : IsLastKept h watched.last
   pub before : (front : List ContainerTick) (x : ContainerTick) → h ≡ front ++ x ∷ [] → IsLastKept front watched.before
 

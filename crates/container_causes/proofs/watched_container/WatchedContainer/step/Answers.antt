@@ -17,18 +17,22 @@ returns-clause-state c = λ spec max_restart_delay h own is.
     let now : IsStateOf spec max_restart_delay (h ++ x ∷ []) c.step-events.new.self =
     c.step-events.ensures.state spec max_restart_delay h is.container in
     let events = c.step-events.ensures.events spec max_restart_delay h own is.container in
-    let differ : IsDifferOf (listings (h ++ x ∷ [])) c.differ.result =
-    c.differ.ensures spec max_restart_delay (h ++ x ∷ []) now in
+    let differ : IsDifferOf (listings (h ++ x ∷ [])) c.differ-differ.result =
+    c.differ-differ.ensures spec max_restart_delay (h ++ x ∷ []) now in
     let takes : IsTrue c.takes_results-takes.result ↔ ((a : ℕ) × BelongsTo a (h ++ x ∷ [])) =
-    takes_is h x c.differ.result c.newest.result c.takes_results-takes.result differ (c.newest.ensures _ differ)
+    takes_is h x c.differ-differ.result c.newest.result c.takes_results-takes.result differ (c.newest.ensures _ differ)
     c.takes_results-takes.ensures in
     record {
       container = now;
       follows = is.follows;
-      results = kept_more spec h x c.args.self.now.container.differ c.differ.result _ _ _ _ _
+      results = kept_more spec h x c.args.self.now.container.differ c.differ-differ.result _ _ _ _ _
           c.takes_results-takes.result is.container.differ c.requires.accepted differ events.started events.passed
           (subst (λ p. IsBegun p c.step-events.result.started c.args.at c.args.self.now.instance c.begin.new.kept) is.follows
           c.begin.ensures) c.in_ok-take_results.ensures takes is.results;
+      count = c.count_exits-self.ensures h x c.args.self.now.container.differ c.differ-differ.result refl is.container.differ
+          c.requires.accepted differ (c.first_running-start.ensures (listings h)
+          (c.differ.ensures spec max_restart_delay h is.container)) (c.run.ensures (listings (h ++ x ∷ [])) differ)
+          events.gone events.died is.count;
       runs_on = runs_on_more h x c.args.self.now.container.differ is.container.differ c.requires.accepted is.runs_on;
       last = (Some x, (h, refl), refl);
       before = λ front y e. front_kept h front x y _ e is.last;
