@@ -36,7 +36,7 @@ use Rattle.container_causes.specs.declared.exits.Leaving.{Leaving}
 use Rattle.container_causes.specs.rule.Exits.{IsLastExit, IsCounted}
 use Rattle.container_causes.specs.state.Exits.{left, exited, last_exit_of, last_exit_at, attempts_of, exits_of, IsCountKept}
 
-lengths : (k : List Tick) (attempts : List ℕ) (exits : List Exit) → AreExitsOf k attempts exits
+pub lengths : (k : List Tick) (attempts : List ℕ) (exits : List Exit) → AreExitsOf k attempts exits
     → length attempts ≡ length exits
 lengths k [] [] are = refl
 lengths k [] (e ∷ exits) are = absurd are
@@ -272,7 +272,7 @@ counted_more h x d e start run gone died left_by died_by before between after is
           ))),
     )
 
-nonempty : (k : List Tick) (a : ℕ) (attempts : List ℕ) (exits : List Exit) → AreExitsOf k attempts exits
+pub nonempty : (k : List Tick) (a : ℕ) (attempts : List ℕ) (exits : List Exit) → AreExitsOf k attempts exits
     → Contains attempts a → exits ≡ [] → ⊥
 nonempty k a [] exits are c none = contains_nothing a c
 nonempty k a (b ∷ attempts) [] are c none = are

@@ -6,3 +6,4 @@ pub mod ReadinessLemmas
 pub mod LookedUpLemmas
 pub mod ListingLemmas
 pub mod CountedLemmas
+pub mod CountLaws

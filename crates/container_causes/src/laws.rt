@@ -19,3 +19,11 @@ pub fn readiness_results()
 pub fn startup_success()
     ensures { laws.SomeStartupSuccess }
 {}
+
+/// The exits of a container have exactly one count, from which the delay follows, and there is one last exit.
+pub fn exits()
+    ensures one { laws.OneCounted }
+    ensures some { laws.SomeCounted }
+    ensures delay { laws.DelayFollows }
+    ensures last { laws.OneLastExit }
+{}
