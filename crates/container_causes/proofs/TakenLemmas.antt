@@ -31,7 +31,7 @@ use Rattle.containers.specs.state.Step.{IsTaken}
 use Rattle.containers.proofs.ProbedLemmas.{said}
 use Rattle.containers.proofs.TickLemmas.{listing, long, onto, onto_at, seen_now, newest_now, start_cases, start_kept}
 use Rattle.containers.proofs.FollowLemmas.{newest_before, none_before_start}
-use Rattle.containers.proofs.ComesLemmas.{start_later, said_before, said_now}
+use Rattle.containers.proofs.ComesLemmas.{comes_by}
 use Rattle.container_causes.specs.declared.instance_results.InstanceResults.{InstanceResults}
 use Rattle.container_causes.specs.state.Watched.{IsKept, AreResultsOf, IsBegun}
 
@@ -105,50 +105,6 @@ taken_by h x a start ticks belongs starts are begun = record {
   after = so_picked_in (BelongsTo a) results_of h x ticks are belongs;
   begun = begun;
 }
-
--- and of one to which it does, what its probes say comes true
-comes_by : (Q : ℕ → List ProbeTick → Type 0) (h : List ContainerTick) (x : ContainerTick) (a start : ℕ)
-    (ticks : List ProbeTick) → IsTaken h x a start ticks → Lasts (Q start)
-    → (ComesTrue (Q start) (ticks ++ results_of x ∷ []) (length ticks) ↔ ComesTrue (λ k. SaysOf Q k a) (h ++ x ∷ [])
-    (length h))
-comes_by Q h x a start ticks is lasts =
-    let P : List ContainerTick → Type 0 = λ k. SaysOf Q k a in
-    let now = ComesTrue-now (Q start) ticks (results_of x) lasts in (
-      (λ c.
-          let w = now.0 c in
-          IsFirst-new (length h) _ _ _ (grows_so P h x) (λ t s. w.1 (earlier t s))
-          (record {
-            start = start;
-            starts = is.starts;
-            ticks = ticks ++ results_of x ∷ [];
-            are_ticks = is.after;
-            says = w.0;
-          })),
-      (λ f. now.1 (
-        said Q (h ++ x ∷ []) a start (ticks ++ results_of x ∷ []) is.starts is.after (said_now Q h x a f),
-        (λ q. elim (is.begun) [
-          | inl old ↦ said_before Q h x a
-              (record { start = start; starts = old; ticks = ticks; are_ticks = is.before; says = q }) f
-          | inr e ↦ lasts.none (subst (λ (ts : List ProbeTick). Q start ts) e q)
-        ]),
-      )),
-    )
-  where
-    earlier : (t : ℕ) → HoldsAt (λ k. SaysOf Q k a) h t → Q start ticks
-    earlier t s =
-        let k = take (suc t) h in
-        let later = drop (suc t) h in
-        let whole : k ++ later ≡ h = take-append-drop (suc t) h in
-        let begins : StartsAt h a s.so.start = subst (λ (g : List ContainerTick). StartsAt g a s.so.start) whole
-        (start_later k later a s.so.start s.so.starts) in
-        let one : Some s.so.start ≡ Some start = IsFirstMoment-unique _ _ (Some s.so.start) (Some start)
-        (start_kept h x a s.so.start begins) is.starts in
-        let same : s.so.start ≡ start = cc in
-        let all : AreTicksOf (k ++ later) a ticks = subst (λ (g : List ContainerTick). AreTicksOf g a ticks)
-        (sym whole) is.before in
-        let w = so_picked_front (BelongsTo a) results_of k later ticks s.so.ticks all s.so.are_ticks in
-        let first : Q start s.so.ticks = subst (λ (m : ℕ). Q m s.so.ticks) same s.so.says in
-        subst (λ (ts : List ProbeTick). Q start ts) (sym w.1) (lasts.more s.so.ticks w.0 first)
 
 -- the startup probe passes with it exactly if the tick has that event
 pub passes_now : (spec : ContainerSpec) (h : List ContainerTick) (x : ContainerTick) (passed : Option PodEventKind)

@@ -12,6 +12,7 @@ use Rattle.manifest.specs.declared.outcome.Outcome.{Outcome}
 use Rattle.manifest.specs.declared.outcome.Outcome.TheVariants.{Success, Failure, Unknown}
 use Rattle.histories.specs.rule.Histories.{IsFirst}
 use Rattle.probes.specs.rule.Outcomes.{EndsRun, FailsInARow, HoldsAfter, PassesWithin}
+use Rattle.probes.proofs.Decided.{failure_or_not, run_or_not}
 use Rattle.probes.proofs.Runs.{FailsInARow-more, HoldsAfter-more}
 use Rattle.probe_causes.specs.rule.Moments.{last_of}
 use Rattle.probe_causes.proofs.Parts.{last_now}
@@ -56,28 +57,11 @@ successes_hold s f xs run = (
   λ later lt fails. let among : later ≤ length xs = fails.among in absurd (omega arith),
 )
 
--- the result is a failure, or it isn't
-failure_or_not : (o : Option Outcome) → OrNot (o ≡ Some Failure)
-failure_or_not None = inr (λ e. cc)
-failure_or_not (Some Failure) = inl refl
-failure_or_not (Some Success) = inr (λ e. let same : Success ≡ Failure = same_Some Success Failure e in cc)
-failure_or_not (Some Unknown) = inr (λ e. let same : Unknown ≡ Failure = same_Some Unknown Failure e in cc)
-
--- failures end with the last result, or they don't
-failures_or_not : (f : ℕ) (xs : List Outcome) → OrNot (EndsNow Failure f xs)
-failures_or_not f xs = elim (both (at_most_or_not f (length xs)) (all_below _ each (length xs))) [
-  | inl w ↦ inl (record { among = omega arith; enough = w.0; all = w.1 })
-  | inr not ↦ inr (λ run. not (run.enough, run.all))
-]
-  where
-    each : (k : ℕ) → OrNot (length xs ≤ k + f → slice_get xs k ≡ Some Failure)
-    each k = implied (at_most_or_not (length xs) (k + f)) (failure_or_not (slice_get xs k))
-
 -- readiness that held and no longer does was ended by failures that end with the new result
 pub failures_undo : (s f : ℕ) (b : Option Outcome) (xs : List Outcome) → HoldsAfter s f xs
     → (HoldsAfter s f (xs ++ cons_option b []) → ⊥) → EndsNow Failure f (xs ++ cons_option b [])
 failures_undo s f None xs holds not = absurd (not (subst (HoldsAfter s f) (sym (append-nil xs)) holds))
-failures_undo s f (Some x) xs holds not = elim (failures_or_not f (xs ++ x ∷ [])) [
+failures_undo s f (Some x) xs holds not = elim (run_or_not Failure failure_or_not f (xs ++ x ∷ []) (length (xs ++ x ∷ []))) [
   | inl now ↦ now
   | inr none ↦ absurd (not ((HoldsAfter-more s f xs x).1 (inr (holds, none))))
 ]
