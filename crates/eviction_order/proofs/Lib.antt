@@ -1,3 +1,4 @@
 pub mod Orders
 pub mod SomeOrders
 pub mod KeyLists
+pub mod Criteria

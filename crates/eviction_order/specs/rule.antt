@@ -1,1 +1,3 @@
 pub mod Ranked
+pub mod Criteria
+pub mod Rows

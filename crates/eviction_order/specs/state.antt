@@ -1,2 +1,3 @@
 pub mod Keys
 pub mod Laws
+pub mod Deciding

@@ -13,3 +13,10 @@ pub fn places()
     ensures each { laws.EachIsRanked }
     ensures in_order { laws.StandInOrder }
 {}
+
+/// Of two pods, one of which is evicted before the other, exactly one criterion decides, and it decides so.
+pub fn criterion()
+    ensures some { laws.SomeCriterion }
+    ensures one { laws.OneCriterion }
+    ensures decides { laws.CriterionDecides }
+{}

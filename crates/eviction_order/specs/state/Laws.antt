@@ -3,6 +3,8 @@ use Rattle.std.specs.Prelude.{◌≡◌, ◌↔◌, ℕ, ◌<◌, List, Bool, Op
 use Rattle.signals.specs.declared.signal.Signal.{Signal}
 use Rattle.pod_piece.specs.declared.status.PodStatus.{PodStatus}
 use Rattle.ranking.specs.rule.Order.{IsBefore, IsVictim}
+use Rattle.eviction_order.specs.declared.criterion.Criterion.{Criterion}
+use Rattle.eviction_order.specs.rule.Criteria.{IsBeforeBy}
 use Rattle.eviction_order.specs.rule.Ranked.{AreRanked}
 
 -- the pods that are held stand in one order at most
@@ -35,3 +37,20 @@ StandInOrder = (signal : Signal) (has_dedicated_imagefs : Bool) (held : ℕ → 
     (i j n m : ℕ) → AreRanked signal has_dedicated_imagefs (λ k p. held k ≡ Some p) numbers → i < j
     → slice_get numbers i ≡ Some n → slice_get numbers j ≡ Some m
     → (p q : PodStatus) × (held n ≡ Some p) × (held m ≡ Some q) × IsBefore signal has_dedicated_imagefs p q
+
+-- of two pods, one before the other, there is a criterion
+abbrev pub SomeCriterion : Type 0
+SomeCriterion = (signal : Signal) (has_dedicated_imagefs : Bool) (p q : PodStatus)
+    → IsBefore signal has_dedicated_imagefs p q
+    → (criterion : Criterion) × IsBeforeBy signal has_dedicated_imagefs criterion p q
+
+-- and one alone
+abbrev pub OneCriterion : Type 0
+OneCriterion = (signal : Signal) (has_dedicated_imagefs : Bool) (p q : PodStatus) (criterion other : Criterion)
+    → IsBeforeBy signal has_dedicated_imagefs criterion p q → IsBeforeBy signal has_dedicated_imagefs other p q
+    → criterion ≡ other
+
+-- by a criterion, one is before the other
+abbrev pub CriterionDecides : Type 0
+CriterionDecides = (signal : Signal) (has_dedicated_imagefs : Bool) (p q : PodStatus) (criterion : Criterion)
+    → IsBeforeBy signal has_dedicated_imagefs criterion p q → IsBefore signal has_dedicated_imagefs p q
