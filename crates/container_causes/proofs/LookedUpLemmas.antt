@@ -9,7 +9,7 @@ use Rattle.probes.specs.rule.Ticks.{startup_results, HasPassed as PassesBy}
 use Rattle.probes.specs.state.Container.{AreInRange}
 use Rattle.probes.proofs.Counted.{passed_lasts}
 use Rattle.probes.proofs.Kills.{kill_lasts}
-use Rattle.probe_causes.specs.rule.Causes.{IsFirstSuccess}
+use Rattle.probe_causes.specs.rule.Causes.{IsFirstSuccess, IsPassMoment as PassesAt}
 use Rattle.probe_causes.proofs.Startup.{success_now}
 use Rattle.state_diff.specs.declared.differ.Differ.{Differ}
 use Rattle.state_diff.specs.state.Differ.{IsStateOf as IsDifferOf}
@@ -17,14 +17,14 @@ use Rattle.containers.specs.declared.pod_event_kind.PodEventKind.TheVariants.{Ki
 use Rattle.containers.specs.rule.Probed.{HasPassed}
 use Rattle.containers.specs.rule.Events.{IsKilled, Passes}
 use Rattle.containers.proofs.FollowLemmas.{belongs_newest}
-use Rattle.container_causes.specs.rule.Results.{IsStartupSuccess}
+use Rattle.container_causes.specs.rule.Results.{IsStartupSuccess, IsPassMoment}
 use Rattle.container_causes.proofs.CauseLemmas.{lifted, said_so}
 use Rattle.container_causes.proofs.ReadinessLemmas.{comes_belongs}
 use Rattle.std.specs.Prelude.{IsSomeAnd, IfSome, IfOk, Result}
 use Rattle.manifest.specs.declared.pod.ContainerSpec.{ContainerSpec}
 use Rattle.state_diff.specs.rule.Instances.{IsNewest}
 use Rattle.probes.specs.rule.Ticks.{Tick as ProbeTick}
-use Rattle.containers.specs.rule.Ticks.{ContainerTick, listings, SaysOf}
+use Rattle.containers.specs.rule.Ticks.{ContainerTick, listings, StartsAt, SaysOf}
 use Rattle.containers.proofs.ProbedLemmas.{said}
 use Rattle.probe_causes.specs.state.ResultMoments.{AreMomentsOf}
 use Rattle.container_causes.specs.declared.instance_results.InstanceResults.{InstanceResults}
@@ -121,3 +121,17 @@ startup_found spec h x d a result kept is results (b, e, comes) give =
     subst (λ (n : ℕ). IsStartupSuccess spec a (h ++ x ∷ []) n) (sym number)
     (said_so (IsCounted spec.probes.startup w.1.0) _ (h ++ x ∷ []) a
     (λ start ticks are. first_of spec.probes.startup w.1.0 start ticks are) w.1.1)
+
+-- the moment in which startup of the instance with this start passed
+pub pass_found : (spec : ContainerSpec) (h : List ContainerTick) (a start : ℕ) (moment : Option ℕ)
+    (kept : Option InstanceResults) → IsSomeAnd kept (IsKept spec h a start) → StartsAt h a start
+    → IfSome kept (λ i. (probes : Probes) (begin : ℕ) (ticks : List ProbeTick) → AreMomentsOf probes begin ticks i.moments
+    → PassesAt probes.startup begin ticks moment) → IsPassMoment spec a h moment
+pass_found spec h a start moment None kept starts give = absurd kept
+pass_found spec h a start moment (Some i) kept starts give = record {
+  start = start;
+  starts = starts;
+  ticks = kept.ticks;
+  are_ticks = kept.are_ticks;
+  says = give spec.probes start kept.ticks kept.moments;
+}

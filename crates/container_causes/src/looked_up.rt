@@ -4,6 +4,7 @@ ghost use Rattle.std.specs.Prelude.{◌≡◌, ℕ, List, length, Some, IfSome, 
 ghost use Rattle.manifest.specs.rule.Probe.{Probe, Probes};
 ghost use Rattle.probes.specs.rule.Ticks.{Tick, startup_results};
 ghost use Rattle.probe_causes.specs.rule.Causes.{AreKillFailures, AreReadySuccesses, AreUnreadyFailures};
+ghost use Rattle.probe_causes.specs.rule.Causes.{IsPassMoment};
 ghost use Rattle.probe_causes.specs.state.ResultMoments.{AreMomentsOf};
 
 use crate::instance_results::InstanceResults;
@@ -65,5 +66,16 @@ pub(crate) fn startup_count_of(kept: &Option<InstanceResults>) -> usize
     match kept {
         Some(instance) => instance.moments.startup_count(),
         None => 0,
+    }
+}
+
+/// The moment in which startup of the instance passed.
+pub(crate) fn pass_moment_of(kept: &Option<InstanceResults>) -> Option<u64>
+    ensures { IfSome kept.now (λ i. (probes : Probes) (start : ℕ) (ticks : List Tick)
+        → AreMomentsOf probes start ticks i.moments → IsPassMoment probes.startup start ticks result) }
+{
+    match kept {
+        Some(instance) => instance.moments.passed(),
+        None => None,
     }
 }

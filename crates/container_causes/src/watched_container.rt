@@ -2,12 +2,13 @@
 
 ghost use Rattle.std.specs.Prelude.{◌≡◌, ◌<◌, ℕ, ℤ, List, [], ◌∷◌, ◌++◌, length, Some, option_map, IsSome, IsSomeAnd, IfOk};
 ghost use Rattle.quantity.specs.rule.Duration.{end_of_time};
-ghost use Rattle.histories.specs.rule.Histories.{recorded};
+ghost use Rattle.histories.specs.rule.Histories.{recorded, IsFirstMoment};
 ghost use Rattle.manifest.specs.declared.pod.ContainerSpec.{ContainerSpec as AContainerSpec};
-ghost use Rattle.state_diff.specs.rule.Instances.{IsNewest, IsExit, IsExitCode, killed_code};
+ghost use Rattle.state_diff.specs.declared.seen.CriState.TheVariants.{Running};
+ghost use Rattle.state_diff.specs.rule.Instances.{ListedAs, IsNewest, IsExit, IsExitCode, killed_code};
 ghost use Rattle.containers.specs.declared.pod_event_kind.PodEventKind.TheVariants.{Kill, StartupPassed, Ready, Unready};
 ghost use Rattle.containers.specs.declared.pod_event_kind.PodEventKind.TheVariants.{Died, Started};
-ghost use Rattle.containers.specs.rule.Ticks.{ContainerTick, listings};
+ghost use Rattle.containers.specs.rule.Ticks.{ContainerTick, listings, StartsAt};
 ghost use Rattle.containers.specs.rule.Events.{AreEvents, IsKilled, Passes, ChangesReadiness};
 ghost use Rattle.containers.specs.rule.Events.{IsGone, HasStarted, HasDied};
 ghost use Rattle.containers.specs.state.Container.{Accepts, IsBefore};
@@ -23,7 +24,7 @@ use crate::listing_causes::{
     Exited, KeptTick, Listed, Unlisted, listing_of, moment_of, run_of, unlisted_by,
 };
 use crate::looked_up::{
-    kill_failures_of, ready_successes_of, startup_count_of, unready_failures_of,
+    kill_failures_of, pass_moment_of, ready_successes_of, startup_count_of, unready_failures_of,
 };
 use containers::{Container, ContainerEvents};
 use manifest::{ContainerSpec, MaxRestartDelay, OwnRestarts, Policy, Probes};
@@ -162,6 +163,25 @@ impl WatchedContainer {
             → IsStartupSuccess spec a (h ++ x ∷ []) result }
     {
         startup_count_of(&self.instance)
+    }
+
+    /// The moment, in seconds, of the start of the newest instance; none if it has not started.
+    pub fn start(&self) -> Option<u64>
+        ensures { (spec : AContainerSpec) (max_restart_delay : ℕ) (h : List ContainerTick) (a : ℕ)
+            → IsWatchedOf spec max_restart_delay h self.now → IsNewest (listings h) a
+            → IsFirstMoment (listings h) (ListedAs (listings h) a Running) result }
+    {
+        self.container.differ().first_running()
+    }
+
+    /// The moment, in seconds, in which startup of the newest instance passed, where it has started; none while it has
+    /// not passed, and none without a startup probe.
+    pub fn pass_moment(&self) -> Option<u64>
+        ensures { (spec : AContainerSpec) (max_restart_delay : ℕ) (h : List ContainerTick) (a start : ℕ)
+            → IsWatchedOf spec max_restart_delay h self.now → IsNewest (listings h) a → StartsAt h a start
+            → IsPassMoment spec a h result }
+    {
+        pass_moment_of(&self.instance)
     }
 
     /// The exit of the newest instance, where it has exited.
