@@ -7,3 +7,4 @@ pub mod LookedUpLemmas
 pub mod ListingLemmas
 pub mod CountedLemmas
 pub mod CountLaws
+pub mod LackingLemmas

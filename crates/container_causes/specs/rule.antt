@@ -1,3 +1,4 @@
 pub mod Results
 pub mod Listings
 pub mod Exits
+pub mod Lacking

@@ -7,11 +7,13 @@
 
 mod exits;
 mod instance_results;
+mod lacking;
 pub mod laws;
 mod listing_causes;
 mod looked_up;
 mod watched_container;
 
 pub use exits::LastExit;
+pub use lacking::Lacking;
 pub use listing_causes::{Exited, Listed, Unlisted};
 pub use watched_container::WatchedContainer;

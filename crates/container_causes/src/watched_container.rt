@@ -1,9 +1,10 @@
 //! A container with what the causes of its events need of the past.
 
-ghost use Rattle.std.specs.Prelude.{◌≡◌, ◌<◌, ℕ, ℤ, List, [], ◌∷◌, ◌++◌, length, Some, option_map, IsSome, IsSomeAnd, IfOk};
+ghost use Rattle.std.specs.Prelude.{◌≡◌, ◌≢◌, ◌<◌, ℕ, ℤ, List, [], ◌∷◌, ◌++◌, length, Some, option_map, IsSome, IsSomeAnd, IfOk};
 ghost use Rattle.quantity.specs.rule.Duration.{end_of_time};
 ghost use Rattle.histories.specs.rule.Histories.{recorded, IsFirstMoment};
 ghost use Rattle.manifest.specs.declared.pod.ContainerSpec.{ContainerSpec as AContainerSpec};
+ghost use Rattle.manifest.specs.declared.pod.Role.TheVariants.{Init};
 ghost use Rattle.state_diff.specs.declared.seen.CriState.TheVariants.{Running};
 ghost use Rattle.state_diff.specs.rule.Instances.{ListedAs, IsNewest, IsExit, IsExitCode, killed_code};
 ghost use Rattle.containers.specs.declared.pod_event_kind.PodEventKind.TheVariants.{Kill, StartupPassed, Ready, Unready};
@@ -13,6 +14,7 @@ ghost use Rattle.containers.specs.rule.Events.{AreEvents, IsKilled, Passes, Chan
 ghost use Rattle.containers.specs.rule.Events.{IsGone, HasStarted, HasDied};
 ghost use Rattle.containers.specs.state.Container.{Accepts, IsBefore};
 ghost use Rattle.container_causes.specs.rule.Exits.{IsLastExit, IsCounted};
+ghost use Rattle.container_causes.specs.rule.Lacking.{IsLacking};
 ghost use Rattle.container_causes.specs.rule.Listings.{IsUnlisted, IsListed, IsExited};
 ghost use Rattle.container_causes.specs.rule.Results.{AreKillFailures, AreReadySuccesses, AreUnreadyFailures};
 ghost use Rattle.container_causes.specs.rule.Results.{IsStartupSuccess, IsPassMoment};
@@ -20,6 +22,7 @@ ghost use Rattle.container_causes.specs.state.Watched.{IsWatchedOf, RunsOn};
 
 use crate::exits::{LastExit, count_exits, last_exit_of};
 use crate::instance_results::{InstanceResults, begin, take_results, takes_results};
+use crate::lacking::{Lacking, lacks_probe, lacks_start};
 use crate::listing_causes::{
     Exited, KeptTick, Listed, Unlisted, listing_of, moment_of, run_of, unlisted_by,
 };
@@ -182,6 +185,22 @@ impl WatchedContainer {
             → IsPassMoment spec a h result }
     {
         pass_moment_of(&self.instance)
+    }
+
+    /// What the newest instance lacks to be ready, in a container that is no init container.
+    pub fn lacks(&self) -> Lacking
+        ensures { (spec : AContainerSpec) (max_restart_delay : ℕ) (h : List ContainerTick) (a : ℕ)
+            → IsWatchedOf spec max_restart_delay h self.now → spec.role ≢ Init → IsNewest (listings h) a
+            → IsLacking spec h a result }
+    {
+        let differ = self.container.differ();
+        let exited_at = differ.exited_at();
+        let status = self.container.status(false);
+        Lacking {
+            start: lacks_start(exited_at, differ.first_running()),
+            startup: lacks_probe(exited_at, self.probes.startup(), status.started),
+            readiness: lacks_probe(exited_at, self.probes.readiness(), status.ready),
+        }
     }
 
     /// The exit of the newest instance, where it has exited.
