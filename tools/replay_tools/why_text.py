@@ -8,14 +8,13 @@ from typing import Any, TYPE_CHECKING
 from replay_tools import entry, events, kubelet as kubelets, provenance, readiness, reasons, traces, why
 from replay_tools.amounts import amount_text
 from replay_tools.signals import BYTE_SIGNALS
-from replay_tools.telling import (DECIDED, OF_NODE, SAID_LATER, beside_words, event_words, node_rows, rank_of,
-                                  rank_of_said, resize_rows, table)
+from replay_tools.telling import (DECIDED, OF_NODE, SAID_LATER, beside_words, event_words, moments_text, node_rows,
+                                  rank_of, rank_of_said, resize_rows, table)
 
 if TYPE_CHECKING:
     from replay_tools import report as reports
 
 MOST_ROWS = 12
-MOST_MOMENTS = 6
 DELETED = "being deleted{by} from here on: nothing of it is restarted"
 ORDERS = {True: "usage above the request first, then lower priority, then more usage above it, then lower number",
           False: "lower priority first, then greater usage, then lower number"}
@@ -182,12 +181,6 @@ def result_lines(results: why.Results, show: Callable[[int], str]) -> list[str]:
              f"periodSeconds {probe.period}"]
     lines += table(head, ["result", "in a row", "moments"], rows)[:-1]
     return lines + left_out(len(results.runs) - len(kept), "earlier runs of results")
-
-
-def moments_text(moments: list[int], show: Callable[[int], str]) -> str:
-    if len(moments) <= MOST_MOMENTS:
-        return ", ".join(map(show, moments))
-    return ", ".join([*map(show, moments[:2]), "..", show(moments[-1])])
 
 
 def left_out(count: int, what: str) -> list[str]:
