@@ -7,7 +7,7 @@ from collections.abc import Callable
 from dataclasses import dataclass
 from typing import Any
 
-from replay_tools import amounts, entry, kubelet as kubelets, restarting
+from replay_tools import amounts, entry, kubelet as kubelets, provenance, restarting, traces
 from replay_tools.record import causes
 from replay_tools.record.explained_events import Explained
 from replay_tools.signals import BYTE_SIGNALS
@@ -22,6 +22,8 @@ CASES = {"failed": "the node ended the pod", "1": "an init container failed, and
          "3": "each app container exited with code 0, and no restart follows",
          "4": "each app container exited, not all with code 0, and no restart follows",
          "5": "the pod waits for no container, and an app container goes on"}
+# if no known code shows which of the cases 3 and 4 it is
+ENDED = "each app container exited, and no restart follows"
 PHASES = {"1": "Failed", "2": "Pending", "3": "Succeeded", "4": "Failed", "5": "Running"}
 SET_BY = {"node": "as the node line sets it", "default": "the default"}
 PAUSE_ENDS = {"exited": "ended early: it had exited", "gone": "ended early: it was gone"}
@@ -29,25 +31,36 @@ PAUSE_ENDS = {"exited": "ended early: it had exited", "gone": "ended early: it w
 
 @dataclass(frozen=True)
 class Telling:
-    """What a sentence needs next to its cause: the event with its other causes, and how moments and pods are shown."""
+    """What a sentence needs next to its cause: the event with its other causes, how a moment is shown, and the trace,
+    which marks what was guessed of it."""
 
     explained: Explained
     show: Callable[[int], str]
-    """writes a moment"""
-    key_of: Callable[[int], str]
-    """the key of the pod of a number"""
+    trace: traces.Trace
 
     @property
-    def rest(self) -> tuple[str, ...]:
-        return () if self.explained.event is None else self.explained.event.rest
+    def container(self) -> str:
+        """The container of the event."""
+        event = self.explained.event
+        return "" if event is None or event.container is None else event.container
 
     def amount(self, thousandths: int) -> str:
         """An amount of the event's signal."""
-        return amounts.amount_text(thousandths, any(word in BYTE_SIGNALS for word in self.rest))
+        rest = () if self.explained.event is None else self.explained.event.rest
+        return amounts.amount_text(thousandths, any(word in BYTE_SIGNALS for word in rest))
 
     def of_kind(self, kind: type[causes.Cause]) -> list[Any]:
         """The causes of the event that are of a kind."""
         return [cause for cause in self.explained.causes if isinstance(cause, kind)]
+
+    def with_code(self, pod: int, container: str, attempt: int, code: int) -> str:
+        """With which code an instance exited; one that was guessed is not printed."""
+        end = self.trace.reasons.ends.get((pod, container, attempt))
+        return "with an unknown code" if end is not None and end.is_guessed else f"with code {code}"
+
+    def is_unknown(self, pod: int) -> bool:
+        """Whether nobody knows the manifest of a pod."""
+        return self.trace.pods[pod].is_guessed
 
 
 # --- a container's starts and exits ---
@@ -74,7 +87,8 @@ def listed(cause: causes.Listed, telling: Telling) -> str:
 def exited(cause: causes.Exited, telling: Telling) -> str:
     ran = f"it started at {telling.show(cause.start)} and ran for {cause.run} s" if cause.start is not None else \
         f"no tick listed it as CONTAINER_RUNNING, so its run counts as {cause.run} s"
-    return f"this tick {listed_as(cause.attempt, 'exited')} with code {cause.code}; {ran}"
+    code = telling.with_code(cause.pod, telling.container, cause.attempt, cause.code)
+    return f"this tick {listed_as(cause.attempt, 'exited')} {code}; {ran}"
 
 
 # --- probes ---
@@ -98,9 +112,10 @@ def failures(cause: causes.Failures, telling: Telling) -> str:
 
 
 def up(cause: causes.Up, telling: Telling) -> str:
-    passed = "; it has no startup probe" if cause.passed is None else \
-        f", and its startup passed at {telling.show(cause.passed)}"
-    return f"the instance started at {telling.show(cause.start)}{passed}"
+    started = f"the instance started at {telling.show(cause.start)}"
+    if cause.passed is not None:
+        return f"{started}, and its startup passed at {telling.show(cause.passed)}"
+    return started if telling.is_unknown(cause.pod) else f"{started}; it has no startup probe"
 
 
 def successes(cause: causes.Successes, telling: Telling) -> str:
@@ -109,7 +124,9 @@ def successes(cause: causes.Successes, telling: Telling) -> str:
             f"(successThreshold {cause.threshold}, initialDelaySeconds {cause.delay})")
 
 
-def unprobed(_: causes.Unprobed, telling: Telling) -> str:
+def unprobed(cause: causes.Unprobed, telling: Telling) -> str:
+    if telling.is_unknown(cause.pod):
+        return f"{provenance.UNKNOWN_MANIFEST}: whether it has probes is too"
     return "it has no readiness probe"
 
 
@@ -119,7 +136,7 @@ def was_ready(cause: causes.WasReady, telling: Telling) -> str:
 
 def left(cause: causes.Left, telling: Telling) -> str:
     if cause.listed:
-        return f"it exited in this tick with code {cause.code}"
+        return f"it exited in this tick {telling.with_code(cause.pod, telling.container, cause.attempt, cause.code)}"
     return f"this tick no longer listed it, so it counts as exited with code {cause.code}"
 
 
@@ -133,7 +150,8 @@ def newer(cause: causes.Newer, telling: Telling) -> str:
 
 
 def exit_(cause: causes.Exit, telling: Telling) -> str:
-    return f"attempt {cause.attempt} exited with code {cause.code} at {telling.show(cause.at)}"
+    code = telling.with_code(cause.pod, telling.container, cause.attempt, cause.code)
+    return f"attempt {cause.attempt} exited {code} at {telling.show(cause.at)}"
 
 
 def decision(cause: causes.Wanted | causes.Decided, whose: str, whom: str, does: str) -> str:
@@ -183,15 +201,20 @@ def lives(cause: causes.Lives, telling: Telling) -> str:
 
 def case(cause: causes.Case, telling: Telling) -> str:
     before = FIRST if cause.before is None else f"the tick before left the pod {PHASES[cause.before]}"
-    return f"{CASES[cause.now]}; {before}"
+    is_unknown = cause.now in ("3", "4") and cause.pod in telling.trace.reasons.unknown_phases
+    return f"{ENDED if is_unknown else CASES[cause.now]}; {before}"
 
 
 def failed(cause: causes.Failed, telling: Telling) -> str:
     return f"its reason is {kubelets.reason_words(cause.reason)}"
 
 
+def exited_with(telling: Telling, pod: int, container: str, attempt: int, code: int) -> str:
+    return f"{container} exited {telling.with_code(pod, container, attempt, code)} (attempt {attempt})"
+
+
 def init_failed(cause: causes.InitFailed, telling: Telling) -> str:
-    return f"init container {cause.container} exited with code {cause.code} (attempt {cause.attempt})"
+    return f"init container {exited_with(telling, cause.pod, cause.container, cause.attempt, cause.code)}"
 
 
 def awaited(cause: causes.Awaited, telling: Telling) -> str:
@@ -199,11 +222,11 @@ def awaited(cause: causes.Awaited, telling: Telling) -> str:
 
 
 def completed(cause: causes.Completed, telling: Telling) -> str:
-    return f"{cause.container} exited with code 0 (attempt {cause.attempt})"
+    return exited_with(telling, cause.pod, cause.container, cause.attempt, 0)
 
 
 def stopped(cause: causes.Stopped, telling: Telling) -> str:
-    return f"{cause.container} exited with code {cause.code} (attempt {cause.attempt})"
+    return exited_with(telling, cause.pod, cause.container, cause.attempt, cause.code)
 
 
 def unfinished(cause: causes.Unfinished, telling: Telling) -> str:
@@ -319,7 +342,7 @@ def grace(cause: causes.Grace, telling: Telling) -> str:
 
 
 def pause(cause: causes.Pause, telling: Telling) -> str:
-    before = f"the eviction before was of {telling.key_of(cause.by)} at {telling.show(cause.at)}"
+    before = f"the eviction before was of {telling.trace.pods[cause.by].key} at {telling.show(cause.at)}"
     if cause.until == cause.at:
         return f"{before}; the node line sets no pause"
     how = PAUSE_ENDS.get(cause.ended, "was over")
@@ -332,7 +355,7 @@ def same(cause: causes.Same, telling: Telling) -> str:
 
 def paused(cause: causes.Paused, telling: Telling) -> str:
     return (f"{cause.signal} {cause.kind} is due, but evictions pause until {telling.show(cause.until)}: "
-            f"{telling.key_of(cause.by)} was evicted at {telling.show(cause.since)}")
+            f"{telling.trace.pods[cause.by].key} was evicted at {telling.show(cause.since)}")
 
 
 def nobody(cause: causes.Nobody, telling: Telling) -> str:
@@ -358,9 +381,9 @@ def sentence(cause: causes.Cause, telling: Telling) -> str:
     return SENTENCES[type(cause)](cause, telling)
 
 
-def lines_of(explained: Explained, show: Callable[[int], str], key_of: Callable[[int], str]) -> list[str]:
+def lines_of(explained: Explained, show: Callable[[int], str], trace: traces.Trace) -> list[str]:
     """The causes of an event, a line each; the candidates of an eviction are a table."""
-    telling = Telling(explained, show, key_of)
+    telling = Telling(explained, show, trace)
     rows = [[str(place), *candidate_cells(one, telling)]
             for place, one in enumerate(telling.of_kind(causes.Candidate), 1)]
     lines: list[str] = []

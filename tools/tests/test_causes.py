@@ -327,14 +327,14 @@ SENTENCES = (
 
 def told_in(name):
     """What each line of a case says, and the lines of each event."""
-    keys = [pod.key for pod in traces.read_trace(f"{CASES}/{name}.trace").pods]
+    trace = traces.read_trace(f"{CASES}/{name}.trace")
     sentences, texts = {}, {}
     for one in explained_in(read(f"{CASES}/{name}.causes")):
-        telling = causes_text.Telling(one, str, keys.__getitem__)
+        telling = causes_text.Telling(one, str, trace)
         for cause in one.causes:
             sentences.setdefault(cause.line().removeprefix("because "), causes_text.sentence(cause, telling))
         if one.event is not None:
-            texts[one.event.line()] = causes_text.lines_of(one, str, keys.__getitem__)
+            texts[one.event.line()] = causes_text.lines_of(one, str, trace)
     return sentences, texts
 
 
@@ -386,3 +386,44 @@ def test_texts_of_events():
          "the restart was due from 20 on; the tick before was at 19\nthe pod goes on: this tick leaves it Running"),
     ):
         expect(f"the lines of {event}", "\n".join(told_in(name)[1][event]), wanted)
+
+
+# a trace whose pod has neither a known manifest nor a known code
+GUESSED = (
+    '{"kind":"node","name":"n1"}',
+    '{"kind":"pod","pod":{"metadata":{"name":"job"},"spec":{"containers":[{"name":"app"}]}},"guessed":["manifest"]}',
+    '{"kind":"tick","at":5,"pods":[{"pod":"default/job","guessed":["phase"],"containers":[{"name":"app","attempt":0,'
+    '"state":"CONTAINER_EXITED","exitCode":137,"guessed":["exitCode"]}]}]}',
+)
+OF_GUESSED = """\
+event 5 default/job app died 0 137
+because exited pod=0 attempt=0 code=137 start=- run=0
+event 5 default/job app ready
+because up pod=0 attempt=0 start=5 passed=-
+because unprobed pod=0 attempt=0
+event 5 default/job app unready
+because was-ready pod=0 attempt=0 start=0
+because left pod=0 attempt=0 code=137 listed=true
+event 5 default/job app backoff 10
+because exit pod=0 attempt=0 at=5 code=137
+because wanted pod=0 role=app by=pod policy=Always rule=-
+because delay pod=0 number=1 first=0 since=5 why=first doubled=- greatest=- set=-
+event 5 default/job - phase Failed
+because case pod=0 now=4 before=-
+because stopped pod=0 container=app attempt=0 code=137
+because decided pod=0 container=app by=pod policy=Never rule=-
+"""
+
+
+def test_what_was_guessed_is_not_told():
+    trace = traces.trace_of("\n".join(GUESSED).encode(), "it")
+    told = [line for one in explained_in(OF_GUESSED) for line in causes_text.lines_of(one, str, trace)]
+    expect("no guessed code, and no probe of an unknown manifest", told, [
+        "this tick listed attempt 0 as CONTAINER_EXITED with an unknown code; no tick listed it as CONTAINER_RUNNING, "
+        "so its run counts as 0 s",
+        "the instance started at 5", "its manifest is unknown: whether it has probes is too",
+        "attempt 0, which started at 0, was ready", "it exited in this tick with an unknown code",
+        "attempt 0 exited with an unknown code at 5", "the pod's restartPolicy Always restarts it",
+        "the restart has no delay: it is the container's first exit",
+        "each app container exited, and no restart follows; it is the pod's first tick",
+        "app exited with an unknown code (attempt 0)", "the pod's restartPolicy Never does not restart app"])
