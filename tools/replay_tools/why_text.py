@@ -5,7 +5,8 @@ from __future__ import annotations
 from collections.abc import Callable
 from typing import Any, TYPE_CHECKING
 
-from replay_tools import entry, events, kubelet as kubelets, provenance, readiness, reasons, traces, why
+from replay_tools import (causes_text, entry, events, kubelet as kubelets, program_causes, provenance, readiness,
+                          reasons, traces, why)
 from replay_tools.amounts import amount_text
 from replay_tools.signals import BYTE_SIGNALS
 from replay_tools.telling import (DECIDED, OF_NODE, SAID_LATER, beside_words, event_words, moments_text, node_rows,
@@ -13,6 +14,7 @@ from replay_tools.telling import (DECIDED, OF_NODE, SAID_LATER, beside_words, ev
 
 if TYPE_CHECKING:
     from replay_tools import report as reports
+    from replay_tools.record.explained_events import Explained
 
 MOST_ROWS = 12
 DELETED = "being deleted{by} from here on: nothing of it is restarted"
@@ -25,12 +27,14 @@ def always(_: int) -> bool:
 
 
 def whole_text(trace: traces.Trace, report: reports.Report, pod: reports.Pod, show: Callable[[int], str],
-               kubelet: kubelets.Kubelet | None = None, is_near: Callable[..., Any] = always) -> str:
+               kubelet: kubelets.Kubelet | None = None, is_near: Callable[..., Any] = always,
+               explained: dict[str, Explained] | None = None) -> str:
     """The lines for each event of a pod of the report, and for what the kubelet did to it, of moments that are near;
-    show writes a moment."""
+    show writes a moment. The causes of an event are those that the program has given, by its line, if it has."""
     parts = [(around.event.at, rank_of(around.event),
               [heading(around.event, show, kubelet, trace) + beside_words(pod, around.event, show, trace),
-               *beside(pod, around, show, kubelet), *told(trace, pod, around, show), *throttled_lines(around, show)])
+               *beside(pod, around, show, kubelet), *told(trace, pod, around, show, explained or {}),
+               *throttled_lines(around, show)])
              for around in why.around_events(trace, report, pod)]
     parts += [(at, DECIDED, lines) for at, lines in kubelet_parts(trace, report, pod, show, kubelet)]
     parts += [(at, SAID_LATER, lines) for at, lines in wait_parts(trace, pod, show) + gate_parts(trace, pod, show)]
@@ -100,11 +104,15 @@ def heading(event: reports.Event, show: Callable[[int], str], kubelet: kubelets.
     return f"{show(event.at)}  {said}{events.attempt_words(attempt)}"
 
 
-def told(trace: traces.Trace, pod: reports.Pod, around: why.Around, show: Callable[[int], str]) -> list[str]:
+def told(trace: traces.Trace, pod: reports.Pod, around: why.Around, show: Callable[[int], str],
+         explained: dict[str, Explained]) -> list[str]:
     """The lines below the heading of an event."""
     word = around.event.word
+    because = reasons.because_lines(around.event, trace) if word == "died" else []
+    causes = explained.get(program_causes.line_of(around.event)) if explained else None
+    if causes is not None:
+        return because + causes_text.lines_of(causes, show, trace) + use_lines(trace, around, show)
     if word in ("started", "died"):
-        because = reasons.because_lines(around.event, trace) if word == "died" else []
         return because + listed_lines(around.listed[0][1], show) + use_lines(trace, around, show)
     if word == "phase":
         return table("the tick lists:", ["container", "attempt", "state", "code"],
