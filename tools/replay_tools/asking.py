@@ -8,8 +8,8 @@ from collections.abc import Callable
 from dataclasses import dataclass
 from typing import Any, TYPE_CHECKING
 
-from replay_tools import (amounts, clock, endings, entry, kubelet as kubelets, naming, overview, program_causes,
-                          provenance, report as reports, summary, traces, why as why_ticks, why_text)
+from replay_tools import (amounts, clock, endings, entry, kubelet as kubelets, naming, overview, provenance,
+                          report as reports, summary, traces, why as why_ticks, why_text)
 from replay_tools.joined import asked, known
 
 if TYPE_CHECKING:
@@ -151,7 +151,7 @@ def why(given_to: Given, trace: traces.Trace, pods: list[reports.Pod], show: Cal
     """What the trace has around the events of some pods at moments that are near, and what the kubelet did to them, as
     text; with the worst of each, where no story is before it."""
     report = given_to.report
-    explained = program_causes.causes_of(trace, pods) if given_to.is_replayed and pods else None
+    explained = causes_of(trace, pods) if given_to.is_replayed and pods else None
 
     def head(pod: reports.Pod) -> str:
         line = worst_line(given_to, pod, show, kubelet) + "\n" if with_worst else ""
@@ -163,6 +163,13 @@ def why(given_to: Given, trace: traces.Trace, pods: list[reports.Pod], show: Cal
 
     return "\n".join(head(pod) + why_of(trace, report, pod, show, kubelet, given_to.is_near, explained)
                      for pod in pods)
+
+
+def causes_of(trace: traces.Trace, pods: list[reports.Pod]) -> dict[str, Explained] | None:
+    """The causes of the events of some pods, as the program has them."""
+    # forty kinds of lines take as long to make as a tool to start
+    from replay_tools import program_causes
+    return program_causes.causes_of(trace, pods)
 
 
 def worst_line(given_to: Given, pod: reports.Pod, show: Callable[[int], str],

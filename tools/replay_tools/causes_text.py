@@ -1,4 +1,4 @@
-"""Says each cause that the program's command `causes` prints as a sentence, and the causes of an event as lines of
+"""Writes each cause that the program's command `causes` prints as a sentence, and the causes of an event as lines of
 text."""
 
 from __future__ import annotations

@@ -5,8 +5,7 @@ from __future__ import annotations
 from collections.abc import Callable
 from typing import Any, TYPE_CHECKING
 
-from replay_tools import (causes_text, entry, events, kubelet as kubelets, program_causes, provenance, readiness,
-                          reasons, traces, why)
+from replay_tools import entry, events, kubelet as kubelets, provenance, readiness, reasons, traces, why
 from replay_tools.amounts import amount_text
 from replay_tools.signals import BYTE_SIGNALS
 from replay_tools.telling import (DECIDED, OF_NODE, SAID_LATER, beside_words, event_words, moments_text, node_rows,
@@ -109,9 +108,11 @@ def told(trace: traces.Trace, pod: reports.Pod, around: why.Around, show: Callab
     """The lines below the heading of an event."""
     word = around.event.word
     because = reasons.because_lines(around.event, trace) if word == "died" else []
-    causes = explained.get(program_causes.line_of(around.event)) if explained else None
-    if causes is not None:
-        return because + causes_text.lines_of(causes, show, trace) + use_lines(trace, around, show)
+    if explained:
+        from replay_tools import causes_text, program_causes
+        causes = explained.get(program_causes.line_of(around.event))
+        if causes is not None:
+            return because + causes_text.lines_of(causes, show, trace) + use_lines(trace, around, show)
     if word in ("started", "died"):
         return because + listed_lines(around.listed[0][1], show) + use_lines(trace, around, show)
     if word == "phase":

@@ -1,4 +1,4 @@
-"""The tests of what reads the program's command `causes` and says its lines as sentences: the hand-written cases of
+"""The tests of what reads the program's command `causes` and writes its lines as sentences: the hand-written cases of
 bench/causes, and lines that no program prints."""
 
 import glob
