@@ -58,6 +58,14 @@ class Telling:
         end = self.trace.reasons.ends.get((pod, container, attempt))
         return "with an unknown code" if end is not None and end.is_guessed else f"with code {code}"
 
+    def as_listed(self, pod: int, attempt: int, at: int) -> str:
+        """As what a tick lists an instance of the container, where the cause names its attempt alone."""
+        place = self.trace.places.get(at)
+        found = None if place is None else self.trace.listing(self.trace.pods[pod], self.container, place)
+        if found is None or found.attempt != attempt:
+            return ""
+        return f" as {found.state}" + ("" if found.code is None else f" with code {found.code}")
+
     def is_unknown(self, pod: int) -> bool:
         """Whether nobody knows the manifest of a pod."""
         return self.trace.pods[pod].is_guessed
@@ -71,7 +79,10 @@ def listed_as(attempt: int, state: str) -> str:
 
 
 def unlisted(cause: causes.Unlisted, telling: Telling) -> str:
-    now = "did not list it" if cause.instead is None else f"listed attempt {cause.instead} instead"
+    now = "did not list it"
+    if cause.instead is not None and telling.explained.event is not None:
+        now = f"listed attempt {cause.instead}" \
+            f"{telling.as_listed(cause.pod, cause.instead, telling.explained.event.at)} instead"
     return f"this tick {now}; the tick at {telling.show(cause.before)} {listed_as(cause.attempt, cause.state)}"
 
 
@@ -79,8 +90,11 @@ def listed(cause: causes.Listed, telling: Telling) -> str:
     now = f"this tick {listed_as(cause.attempt, 'running')}"
     if cause.before is None or cause.was is None:
         return f"{now}; {FIRST}"
-    was = {"nothing": "listed nothing of the container", "other": f"listed attempt {cause.other}"}
-    before = was.get(cause.was) or f"listed it as CONTAINER_{cause.was.upper()}"
+    before = f"listed it as CONTAINER_{cause.was.upper()}"
+    if cause.was == "nothing":
+        before = "listed nothing of the container"
+    elif cause.other is not None:
+        before = f"listed attempt {cause.other}{telling.as_listed(cause.pod, cause.other, cause.before)}"
     return f"{now}; the tick at {telling.show(cause.before)} {before}"
 
 

@@ -8,7 +8,7 @@ import subprocess
 
 from replay_tools import entry, events, program as programs, report as reports, traces
 from replay_tools.cli.statuses import Status
-from replay_tools.record.causes import CausesFault
+from replay_tools.record.causes import CausesFault, Pause, Paused
 from replay_tools.record.explained_events import Event, Explained, read
 
 # the program knows the command, and rejects what it was asked with it
@@ -23,9 +23,19 @@ def causes_of(trace: traces.Trace, pods: list[reports.Pod]) -> dict[str, Explain
     if answer is None:
         return None
     try:
-        return {one.event.line(): one for one in read(io.StringIO(answer, newline="\n")) if one.event is not None}
+        found = list(read(io.StringIO(answer, newline="\n")))
+        check_pods(found, len(trace.pods))
+        return {one.event.line(): one for one in found if one.event is not None}
     except CausesFault as fault:
         raise entry.Fault(f"the program's answer can't be read: {fault}", Status.FAILED) from None
+
+
+def check_pods(found: list[Explained], count: int) -> None:
+    """Raises CausesFault where a cause is of a pod that the trace, which has so many, does not have."""
+    for cause in (cause for one in found for cause in one.causes):
+        number = cause.by if isinstance(cause, (Pause, Paused)) else getattr(cause, "pod", 0)
+        if number >= count:
+            raise CausesFault(f"the trace has no pod {number}: {cause.line()}")
 
 
 def text_of(trace: traces.Trace) -> bytes | None:

@@ -84,6 +84,10 @@ def test_faults_of_the_program():
     with Asked() as asked:
         expect_refused("an answer of another form", asked.run(COMMAND, "why", "-f", TRACE, POD, CAUSES=REPORT), 1,
                        "the program's answer can't be read: line 1 of the causes is of no known kind: node worker-3")
+        with open(f"{asked.folder}/causes", "w", encoding="utf-8") as file:
+            file.write(read(CAUSES).replace("listed pod=0", "listed pod=1", 1))
+        expect_refused("causes of another trace", asked.run(COMMAND, "why", "-f", TRACE, POD, CAUSES=file.name), 1,
+                       "the program's answer can't be read: the trace has no pod 1: because listed pod=1 attempt=0")
 
 
 def test_several_traces_are_not_asked_for():
