@@ -3,6 +3,7 @@ bench/causes, and lines that no program prints."""
 
 import glob
 import io
+import re
 
 import cases
 from causes_form import FORMS, ORDERS
@@ -43,6 +44,13 @@ def test_kinds_are_those_of_the_page():
     kinds = map(causes.line_of, causes.KINDS.values())
     expect("the kinds and their keys", {(kind.name, *kind.keys) for kind in kinds}, set(FORMS))
     expect("the causes of each event", explained_events.OF_EVENTS, ORDERS)
+
+
+def test_examples_of_the_page():
+    text = "".join(re.findall(r"^    ((?:event|because) [a-z0-9].*\n)", read(f"{TOP}/docs/why.md"), re.MULTILINE))
+    found = explained_in(text)
+    expect("the page has examples", len(found) > 10, True)
+    expect("they are written as they were read", "".join(f"{line}\n" for one in found for line in one.lines()), text)
 
 
 def test_values_of_each_form():
