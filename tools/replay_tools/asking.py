@@ -14,6 +14,7 @@ from replay_tools.joined import asked, known
 
 if TYPE_CHECKING:
     from replay_tools.joined import join
+    from replay_tools.record.explained_events import Explained
 
 
 @dataclass
@@ -24,6 +25,8 @@ class Given:
     trace: traces.Trace | None
     several: join.Joined | None = None
     ticks: why_ticks.Ticks | None = None
+    is_replayed: bool = False
+    """the program has made the report of the trace just now, and may be asked for more of it"""
 
     @property
     def since(self) -> int:
@@ -59,7 +62,8 @@ def given(found: Namespace, gather: Callable[..., Any] | None = None) -> Given:
         endings.tell_left(trace, report)
         if ticks is not None:
             of_whole_ticks(functools.partial(ticks.take_all, trace))
-    return Given(report, trace, several, ticks)
+    is_replayed = trace is not None and (several is not None or getattr(found, "is_replayed", False))
+    return Given(report, trace, several, ticks, is_replayed)
 
 
 def joined(wanted: asked.Asked) -> join.Joined:
@@ -147,6 +151,7 @@ def why(given_to: Given, trace: traces.Trace, pods: list[reports.Pod], show: Cal
     """What the trace has around the events of some pods at moments that are near, and what the kubelet did to them, as
     text; with the worst of each, where no story is before it."""
     report = given_to.report
+    explained = causes_of(trace, pods) if given_to.is_replayed and pods else None
 
     def head(pod: reports.Pod) -> str:
         line = worst_line(given_to, pod, show, kubelet) + "\n" if with_worst else ""
@@ -156,7 +161,15 @@ def why(given_to: Given, trace: traces.Trace, pods: list[reports.Pod], show: Cal
             line = "".join(f"{each}\n" for each in above) + line
         return f"why {pod.key} on {report.node}{reports.number_words(report, pod)}\n{line}\n"
 
-    return "\n".join(head(pod) + why_of(trace, report, pod, show, kubelet, given_to.is_near) for pod in pods)
+    return "\n".join(head(pod) + why_of(trace, report, pod, show, kubelet, given_to.is_near, explained)
+                     for pod in pods)
+
+
+def causes_of(trace: traces.Trace, pods: list[reports.Pod]) -> dict[str, Explained] | None:
+    """The causes of the events of some pods, as the program has them."""
+    # forty kinds of lines take as long to make as a tool to start
+    from replay_tools import program_causes
+    return program_causes.causes_of(trace, pods)
 
 
 def worst_line(given_to: Given, pod: reports.Pod, show: Callable[[int], str],
@@ -166,8 +179,9 @@ def worst_line(given_to: Given, pod: reports.Pod, show: Callable[[int], str],
 
 
 def why_of(trace: traces.Trace, report: reports.Report, pod: reports.Pod, show: Callable[[int], str],
-           kubelet: kubelets.Kubelet | None, is_near: Callable[..., Any]) -> str:
-    return of_whole_ticks(lambda: why_text.whole_text(trace, report, pod, show, kubelet, is_near))
+           kubelet: kubelets.Kubelet | None, is_near: Callable[..., Any],
+           explained: dict[str, Explained] | None = None) -> str:
+    return of_whole_ticks(lambda: why_text.whole_text(trace, report, pod, show, kubelet, is_near, explained))
 
 
 def of_whole_ticks(gather: Callable[..., Any]) -> Any:

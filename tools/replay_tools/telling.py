@@ -4,7 +4,7 @@ from __future__ import annotations
 
 import re
 from bisect import bisect_left
-from collections.abc import Callable
+from collections.abc import Callable, Sequence
 from dataclasses import dataclass
 from typing import TYPE_CHECKING
 
@@ -20,6 +20,8 @@ DATE = re.compile(rf"\d{{4}}-\d\d-\d\d (?=\d\d:\d\d:\d\d{ZONE})")
 NEAR_KILL = 5
 # a code that no tick shows
 UNKNOWN = "unknown"
+# of more moments some are left out
+MOST_MOMENTS = 6
 # a cell that is a moment, or several of them
 MOMENTS = re.compile(rf"({DATE.pattern})[\d:]{{8}}{ZONE}(?:, .*)?", re.ASCII)
 
@@ -57,6 +59,13 @@ def dated_once(rows: list[list[str]]) -> list[list[str]]:
 
     dates = [next((found[1] for found in map(MOMENTS.fullmatch, row) if found), None) for row in rows]
     return [[told(place, cell, own) for place, cell in enumerate(row)] for row, own in zip(rows, dates)]
+
+
+def moments_text(moments: Sequence[int], show: Callable[[int], str]) -> str:
+    """Moments of results, the first and the last of many."""
+    if len(moments) <= MOST_MOMENTS:
+        return ", ".join(map(show, moments))
+    return ", ".join([*map(show, moments[:2]), "..", show(moments[-1])])
 
 
 def event_words(event: reports.Event, is_beside: bool = False, trace: traces.Trace | None = None,

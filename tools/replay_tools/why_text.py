@@ -8,14 +8,14 @@ from typing import Any, TYPE_CHECKING
 from replay_tools import entry, events, kubelet as kubelets, provenance, readiness, reasons, traces, why
 from replay_tools.amounts import amount_text
 from replay_tools.signals import BYTE_SIGNALS
-from replay_tools.telling import (DECIDED, OF_NODE, SAID_LATER, beside_words, event_words, node_rows, rank_of,
-                                  rank_of_said, resize_rows, table)
+from replay_tools.telling import (DECIDED, OF_NODE, SAID_LATER, beside_words, event_words, moments_text, node_rows,
+                                  rank_of, rank_of_said, resize_rows, table)
 
 if TYPE_CHECKING:
     from replay_tools import report as reports
+    from replay_tools.record.explained_events import Explained
 
 MOST_ROWS = 12
-MOST_MOMENTS = 6
 DELETED = "being deleted{by} from here on: nothing of it is restarted"
 ORDERS = {True: "usage above the request first, then lower priority, then more usage above it, then lower number",
           False: "lower priority first, then greater usage, then lower number"}
@@ -26,12 +26,14 @@ def always(_: int) -> bool:
 
 
 def whole_text(trace: traces.Trace, report: reports.Report, pod: reports.Pod, show: Callable[[int], str],
-               kubelet: kubelets.Kubelet | None = None, is_near: Callable[..., Any] = always) -> str:
+               kubelet: kubelets.Kubelet | None = None, is_near: Callable[..., Any] = always,
+               explained: dict[str, Explained] | None = None) -> str:
     """The lines for each event of a pod of the report, and for what the kubelet did to it, of moments that are near;
-    show writes a moment."""
+    show writes a moment. The causes of an event are those that the program has given, by its line, if it has."""
     parts = [(around.event.at, rank_of(around.event),
               [heading(around.event, show, kubelet, trace) + beside_words(pod, around.event, show, trace),
-               *beside(pod, around, show, kubelet), *told(trace, pod, around, show), *throttled_lines(around, show)])
+               *beside(pod, around, show, kubelet), *told(trace, pod, around, show, explained or {}),
+               *throttled_lines(around, show)])
              for around in why.around_events(trace, report, pod)]
     parts += [(at, DECIDED, lines) for at, lines in kubelet_parts(trace, report, pod, show, kubelet)]
     parts += [(at, SAID_LATER, lines) for at, lines in wait_parts(trace, pod, show) + gate_parts(trace, pod, show)]
@@ -101,11 +103,17 @@ def heading(event: reports.Event, show: Callable[[int], str], kubelet: kubelets.
     return f"{show(event.at)}  {said}{events.attempt_words(attempt)}"
 
 
-def told(trace: traces.Trace, pod: reports.Pod, around: why.Around, show: Callable[[int], str]) -> list[str]:
+def told(trace: traces.Trace, pod: reports.Pod, around: why.Around, show: Callable[[int], str],
+         explained: dict[str, Explained]) -> list[str]:
     """The lines below the heading of an event."""
     word = around.event.word
+    because = reasons.because_lines(around.event, trace) if word == "died" else []
+    if explained:
+        from replay_tools import causes_text, program_causes
+        causes = explained.get(program_causes.line_of(around.event))
+        if causes is not None:
+            return because + causes_text.lines_of(causes, show, trace) + use_lines(trace, around, show)
     if word in ("started", "died"):
-        because = reasons.because_lines(around.event, trace) if word == "died" else []
         return because + listed_lines(around.listed[0][1], show) + use_lines(trace, around, show)
     if word == "phase":
         return table("the tick lists:", ["container", "attempt", "state", "code"],
@@ -182,12 +190,6 @@ def result_lines(results: why.Results, show: Callable[[int], str]) -> list[str]:
              f"periodSeconds {probe.period}"]
     lines += table(head, ["result", "in a row", "moments"], rows)[:-1]
     return lines + left_out(len(results.runs) - len(kept), "earlier runs of results")
-
-
-def moments_text(moments: list[int], show: Callable[[int], str]) -> str:
-    if len(moments) <= MOST_MOMENTS:
-        return ", ".join(map(show, moments))
-    return ", ".join([*map(show, moments[:2]), "..", show(moments[-1])])
 
 
 def left_out(count: int, what: str) -> list[str]:

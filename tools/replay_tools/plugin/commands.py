@@ -144,4 +144,4 @@ def trace_of(name: str, found: Namespace, file: str | None, pods: list[str]) -> 
     if file is None or found.trace is not None or files.is_report(file):
         return {}
     has_pod = name == "story" and bool(pods) and not pods[0].endswith("/")
-    return {"trace": file, **({"without_why": True} if has_pod else {})}
+    return {"trace": file, "is_replayed": True, **({"without_why": True} if has_pod else {})}
