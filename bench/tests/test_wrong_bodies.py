@@ -92,7 +92,7 @@ class Shelf(Case):
 
     def test_the_page_has_each_row_and_what_waits(self):
         said = read(TOP, "docs/gate.md").partition(gate_page.OUTSIDE)[2].partition(gate_page.REPLAYS)[0]
-        self.assertEqual((gate_page.OUTSIDE + said).splitlines(), "\n".join(gate_page.shelf(TOP)).splitlines())
+        self.assertEqual((gate_page.OUTSIDE + said).split("\n"), "\n".join([*gate_page.shelf(TOP), ""]).split("\n"))
 
     def test_each_edit_was_judged(self):
         for row in shelf.read_found(TOP):
