@@ -388,6 +388,21 @@ def test_help():
             "It needs python3", "leaves out", "\n\nStatus 0: ")], [True] * 3)
 
 
+OLDER = """
+import runpy, sys
+sys.version_info, sys.argv = (3, 8, 10, "final", 0), sys.argv[1:]
+runpy.run_path(sys.argv[0], run_name="__main__")
+"""
+
+
+def test_an_older_python():
+    """One line has which Python is needed, and which there is."""
+    for name in ("story", "kubelet-replay", "kubectl-replay"):
+        answer = run([sys.executable, "-c", OLDER, f"{TOOLS}/replay_tools/__main__.py", name, "--version"])
+        expect(f"{name} by an older Python", answer,
+               (1, "", f"{name}: needs Python 3.9 or later, and python3 is 3.8\n"))
+
+
 def test_missing_commands():
     """With a PATH that lacks one command each."""
     all_of = ["sh", "env", "python3", "jq", "diff", "crictl", "kubectl", "curl", "cat", "dirname", "readlink", "uname",
