@@ -23,8 +23,6 @@ If a function has changed since its run, nobody planted it again. The last colum
 words `failed`, `judged`, `spared` and `waiting`; the gates, which are readiness gates, pod resources and
 `crashLoopBackOff`; containers' own policies and rules of restarts; and resizes.
 """, """
-{without}
-""", """
 A rejection shows less if the search for a proof reached a limit: it found no counterexample, and a longer search might
 find a proof. By the log of the last whole run of the gate, of 60 edits, this holds for 16. A rejection shows nothing about the contract if a
 stored answer of `proofs/` no longer fits. This holds for most mutants of `node_rounds`, for mutants of the second
@@ -53,14 +51,19 @@ def rows_in(text):
     return rows
 
 
-def text_without(rows, crates):
-    """The sentence on the crates that no run on record covers."""
+def lines_without(rows, crates):
+    """The sentence on the crates that no run on record covers, and these, storey by storey."""
     covered = {name for row in rows for name in row["crate"].split()}
-    names = [f"`{name}`" for name in crates if name not in covered]
-    if not names:
-        return "Some run on record covers each crate."
-    which = "this crate" if len(names) == 1 else f"these {len(names)} crates"
-    return f"No run on record covers {which}, so none shows what the prover rejects there: {', '.join(names)}."
+    storeys = {}
+    for crate in crates:
+        if crate.name not in covered:
+            storeys.setdefault(crate.storey, []).append(f"`{crate.name}`")
+    number = sum(map(len, storeys.values()))
+    if not number:
+        return ["Some run on record covers each crate."]
+    said = f"No run on record covers {'this crate' if number == 1 else f'these {number} crates'}, so none shows what " \
+           "the prover rejects there:"
+    return [said, "", *(wrapped(f"{storey}: {', '.join(names)}", "- ", "  ") for storey, names in storeys.items())]
 
 
 def line_of(cells):
@@ -90,12 +93,11 @@ def line_of_runs(crates, rows):
 def page_of(rows, edits, spent, crates):
     """The text of the page of these crates, with the processor seconds that the edits of each take if they are
     known."""
-    said = {**sums_of(rows), "without": text_without(rows, crates)}
-    head = [wrapped(paragraph.format(**said)) for paragraph in HEAD]
+    head = [wrapped(paragraph.format(**sums_of(rows))) for paragraph in HEAD]
     table = [line_of(TITLES), line_of(["---"] * len(TITLES))]
     table += [line_of_runs(crates, of_crates) for crates, of_crates in runs_by_crates(rows).items()]
     reasons = [wrapped(f"`{row['crate']}`: {row[COLUMNS[-1]]}.", "- ", "  ") for row in rows if row[COLUMNS[-1]]]
-    parts = ["# What was planted", *head, "\n".join(table),
+    parts = ["# What was planted", *head, "\n".join(table), "\n".join(lines_without(rows, crates)),
              "Why the proved mistakes change no answer:", "\n".join(reasons),
              "## What each edit of the gate alone shows", wrapped(WORDS), "\n".join(lines_of_edits(edits, spent))]
     return "\n\n".join(parts) + "\n"

@@ -31,8 +31,7 @@ def faults(top, checks):
     if wrong := without_words(edits, edits_of_the_gate(top)):
         return [wrong]
     spent = {name: figure.edits for name, figure in read_figures(top).items()}
-    names = [crate.name for crate in crates.read_crates(top)]
-    texts = {"planted.md": page_of(rows_in(text_of(top, "planted.tsv")), edits, spent, names)}
+    texts = {"planted.md": page_of(rows_in(text_of(top, "planted.tsv")), edits, spent, crates.read_crates(top))}
     if checks:
         return differences(top, texts, "bench/planted")
     write_anew(top, texts)
