@@ -4,7 +4,7 @@ import textwrap
 
 import script
 from gate_figures import WHOLE, edits_of, gate_seconds, longest_chain, since, unchanged_between
-from shelf import COLUMNS, read_found
+from shelf import COLUMNS, read_found, untried_text
 
 PAGE = "docs/gate.md"
 HEAD = """\
@@ -49,7 +49,8 @@ rejects, how many only a proof file rejects that no longer fits, and how many ar
 seconds of all edits of the crate. A rejection by a clause also counts if the search for the clause's proof gave up at a
 limit. If the edits of a crate were tried in parts, in clones with some of them each, its row is the sum of the parts,
 put in manually.
-
+"""
+OF_SHELF = """\
 | Crate | edits | by a clause | by a proof file only | still proved | seconds |
 |---|---|---|---|---|---|"""
 REPLAYS = "## What a replay costs"
@@ -92,9 +93,12 @@ def table(top, crates, found):
 
 
 def shelf(top):
-    """What bench/wrong_bodies found last, if it was run."""
+    """What bench/wrong_bodies found last, if it was run, and what it has not tried."""
     rows = ["| " + " | ".join(it[column] for column in COLUMNS) + " |" for it in read_found(top)]
-    return [SHELF, *rows, ""] if rows else []
+    if not rows:
+        return []
+    waiting = untried_text(top)
+    return [SHELF, *([filled(waiting), ""] if waiting else []), OF_SHELF, *rows, ""]
 
 
 def replays(ticks):

@@ -19,12 +19,12 @@ prover rejects it, proves it, or can't judge it; some mistakes `rt plant` can't 
 laws, or inside a loop. A proved mistake needs a reason why it changes no answer. In all, {refused} were rejected,
 {proved} proved, {not judged} not judged, and {not writable} not writable. `bench/planted.tsv` has what each run
 covered.
-If a function has changed since its run, nobody planted it again. `words added` is the code of the words `failed`,
-`judged`, `spared` and `waiting`, which came later; `gates added` is the code of readiness gates, of pod resources
-and of `crashLoopBackOff`. A crate without a row has no run in its present form.
+If a function has changed since its run, nobody planted it again. The last column names code that came later: the
+words `failed`, `judged`, `spared` and `waiting`; the gates, which are readiness gates, pod resources and
+`crashLoopBackOff`; containers' own policies and rules of restarts; and resizes.
 """, """
 A rejection shows less if the search for a proof reached a limit: it found no counterexample, and a longer search might
-find a proof. By the gate's log this holds for 16 of its 60 edits. A rejection shows nothing about the contract if a
+find a proof. By the log of the last whole run of the gate, of 60 edits, this holds for 16. A rejection shows nothing about the contract if a
 stored answer of `proofs/` no longer fits. This holds for most mutants of `node_rounds`, for mutants of the second
 container in `events_of` of `pod_state`, and for some of `update_in_place` of `pod_piece`. No clause is known to be too
 weak there: of 105 wrong bodies written for these crates, none that was proved changes an answer.
@@ -51,6 +51,21 @@ def rows_in(text):
     return rows
 
 
+def lines_without(rows, crates):
+    """The sentence on the crates that no run on record covers, and these, storey by storey."""
+    covered = {name for row in rows for name in row["crate"].split()}
+    storeys = {}
+    for crate in crates:
+        if crate.name not in covered:
+            storeys.setdefault(crate.storey, []).append(f"`{crate.name}`")
+    number = sum(map(len, storeys.values()))
+    if not number:
+        return ["Some run on record covers each crate."]
+    said = f"No run on record covers {'this crate' if number == 1 else f'these {number} crates'}, so none shows what " \
+           "the prover rejects there:"
+    return [said, "", *(wrapped(f"{storey}: {', '.join(names)}", "- ", "  ") for storey, names in storeys.items())]
+
+
 def line_of(cells):
     return f"| {' | '.join(cells)} |"
 
@@ -75,13 +90,14 @@ def line_of_runs(crates, rows):
     return line_of([names, *map(str, sums_of(rows).values()), max(row["date"] for row in rows), changed])
 
 
-def page_of(rows, edits, spent):
-    """The text of the page, with the processor seconds that the edits of each crate take if they are known."""
+def page_of(rows, edits, spent, crates):
+    """The text of the page of these crates, with the processor seconds that the edits of each take if they are
+    known."""
     head = [wrapped(paragraph.format(**sums_of(rows))) for paragraph in HEAD]
     table = [line_of(TITLES), line_of(["---"] * len(TITLES))]
     table += [line_of_runs(crates, of_crates) for crates, of_crates in runs_by_crates(rows).items()]
     reasons = [wrapped(f"`{row['crate']}`: {row[COLUMNS[-1]]}.", "- ", "  ") for row in rows if row[COLUMNS[-1]]]
-    parts = ["# What was planted", *head, "\n".join(table),
+    parts = ["# What was planted", *head, "\n".join(table), "\n".join(lines_without(rows, crates)),
              "Why the proved mistakes change no answer:", "\n".join(reasons),
              "## What each edit of the gate alone shows", wrapped(WORDS), "\n".join(lines_of_edits(edits, spent))]
     return "\n\n".join(parts) + "\n"

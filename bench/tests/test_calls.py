@@ -6,6 +6,7 @@ from common import SMALL, Case, lay_over, read, run, write
 import antt
 import call_entries
 import call_pages
+import named_calls
 import public
 from public import Clause
 
@@ -136,6 +137,22 @@ class Shown(Case):
         text = call_entries.folded(f"{'a' * 110} 2^63 - 1", "- ", "  ")
         self.assertNotIn("\n  -", text)
         self.assertEqual(text.split()[-3:], ["2^63", "-", "1"])
+
+
+class Named(Case):
+    def test_what_no_source_has(self):
+        """Methods, fields, variants and functions of a module that a page names; not those of other libraries."""
+        with tempfile.TemporaryDirectory() as top:
+            os.makedirs(f"{top}/crates/marks/src")
+            os.makedirs(f"{top}/docs")
+            write("pub enum Grade {\n    Good,\n    Bad(u64),\n}\n\nimpl Grade {\n    pub fn of(mark: u64) -> Grade {\n"
+                  "        Grade::Good\n    }\n}\n\npub struct Mark {\n    pub held: u64,\n}\n", top,
+                  "crates/marks/src/grade.rt")
+            write("`Grade::of`, `Grade::Bad`, `Mark::held`, `marks::of`, `grade::of` and `std::mem` are there.\n"
+                  "`Grade::gone` and `Mark::of` are not, nor is `marks::gone`.\n", top, "docs/a.md")
+            write("`Other::of` was there.\n", top, "CHANGELOG.md")
+            self.assertEqual(named_calls.faults(top), [f"docs/a.md:2: no source has `{name}`" for name in (
+                "Grade::gone", "Mark::of", "marks::gone")])
 
 
 class Calls(Case):

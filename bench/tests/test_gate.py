@@ -280,6 +280,14 @@ class Page(Case):
         self.assertNotEqual(old, page)
         self.assertEqual(gate_page.with_costs(old, self.top, TICKS), page)
 
+    def test_edits_that_nobody_has_tried(self):
+        os.makedirs(f"{self.top}/crates/marks/wrong-bodies/untried")
+        write("", self.top, "crates/marks/wrong-bodies/untried/a.edit")
+        said = ("\n\nNot in the table: 1 edit is in `crates/NAME/wrong-bodies/untried/`, since nobody has tried it in its "
+                "present form: 1 of\n`marks`.\n\n| Crate |")
+        self.assertIn(said, self.text())
+        self.assertIn(said, gate_page.with_costs(self.text(), self.top, TICKS))
+
     def test_without_a_shelf_nothing_is_said_of_it(self):
         os.remove(f"{self.top}/bench/wrong_bodies.tsv")
         text = self.text()

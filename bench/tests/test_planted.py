@@ -16,6 +16,7 @@ class Planted(Case):
     def setUp(self):
         self.top = self.enterContext(tempfile.TemporaryDirectory())
         os.makedirs(f"{self.top}/bench")
+        write("## Base\na:\nb: a\nc:\n## Rules\nd: a\n", self.top, "crates.txt")
 
     def planted(self, *lines, words=()):
         write("".join(f"{line}\n" for line in lines), self.top, "bench/planted.tsv")
@@ -65,6 +66,15 @@ class Planted(Case):
         self.assertEqual(self.planted(HEAD, ROW, words=["--check"]), (0, "", ""))
         self.assertEqual(self.planted(HEAD, ROW, ROW, words=["--check"]), (
             1, "", "bench/planted: docs/planted.md is stale: run bench/planted\n"))
+
+    def test_crates_without_a_run(self):
+        for rows, said in (([ROW], "\nNo run on record covers these 2 crates, so none shows what the prover rejects "
+                                   "there:\n\n- Base: `c`\n- Rules: `d`\n"),
+                           ([ROW, ROW.replace("a b", "c")], "covers this crate, so none shows what the prover rejects "
+                                                            "there:\n\n- Rules: `d`\n"),
+                           ([ROW, ROW.replace("a b", "c d")], "\nSome run on record covers each crate.\n")):
+            self.assertEqual(self.planted(HEAD, *rows), (0, "", ""))
+            self.assertIn(said, read(self.top, "docs/planted.md"))
 
     def test_the_runs_of_a_crate_are_one_line(self):
         later = ROW.replace("2026-11-27", "2026-11-30").replace("all", "private functions")

@@ -2,6 +2,7 @@
 import glob
 import importlib.util
 import os
+import re
 import shutil
 import subprocess
 import sys
@@ -82,6 +83,89 @@ class Bytecode(Case):
         self.assertEqual([line for line in loaded if ".pyc" not in line and "__main__" not in line], [])
         self.assertTrue(any("/commands/" in line or "/entry." in line for line in loaded), loaded)
         self.assertEqual(set(glob.glob(f"{package}/**/*.pyc", recursive=True)), there)
+
+
+class Archives(Case):
+    """What a release of this checkout has, and for which machines."""
+
+    def setUp(self):
+        if shutil.which("dpkg-deb") is None:
+            self.skipTest("dpkg-deb is missing")
+        self.room = self.enterContext(tempfile.TemporaryDirectory())
+        status, made, said = run("release", "--program", PROGRAM, self.room)
+        self.assertEqual(status, 0, said)
+        self.archive, self.package, self.tools, _ = made.splitlines()
+
+    def test_what_there_is(self):
+        self.check_names_and_needs()
+        self.check_tools_for_any_machine()
+
+    def check_names_and_needs(self):
+        def field(name):
+            return subprocess.run(["dpkg-deb", "--field", self.package, name], capture_output=True, text=True,
+                                  check=True).stdout.strip()
+
+        self.assertRegex(field("Depends"), r"^libc6 \(>= [0-9.]+\), python3 \(>= 3\.9\)$")
+        version, last = field("Version"), read(TOP, "VERSION").strip()
+        if version != last:
+            self.assertRegex(version, rf"^{re.escape(last)}\+git\d{{8}}\.[0-9a-f]{{8}}$")
+            major, minor, patch = map(int, last.split("."))
+            for other, order in ((last, "gt"), (f"{major}.{minor}.{patch + 1}", "lt"), (f"{major}.{minor + 1}.0", "lt")):
+                subprocess.run(["dpkg", "--compare-versions", version, order, other], check=True)
+        names = [os.path.basename(path) for path in (self.archive, self.package, self.tools)]
+        self.assertEqual(names, [f"kubelet-replay-{version}-x86_64-linux.tar.gz", f"kubelet-replay_{version}_amd64.deb",
+                                 f"kubelet-replay-tools-{version}-all.tar.gz"])
+
+    def check_tools_for_any_machine(self):
+        """They have no program, nor what starts one as a service; what needs the program is named in one line."""
+        subprocess.run(["tar", "-xzf", self.tools, "-C", self.room], check=True)
+        [folder] = glob.glob(f"{self.room}/kubelet-replay-tools-*-all")
+        self.assertEqual([name for name in ("lib", "deploy", "man/kubelet_replay.1")
+                          if os.path.exists(f"{folder}/{name}")], [])
+        for words, report, answer in ((["story", "api-7f9c"], "crash_loop.report", 0),
+                                      (["run", f"{folder}/examples/crash_loop.trace"], "crash_loop.report", 127)):
+            with open(f"{folder}/examples/{report}", encoding="utf-8") as file:
+                done = subprocess.run([f"{folder}/kubelet-replay", *words], stdin=file, capture_output=True, text=True,
+                                      check=False, env={"PATH": "/usr/bin:/bin"})
+            self.assertEqual(done.returncode, answer, done.stderr)
+        self.assertEqual((done.stdout, done.stderr.count("\n"), "Linux on x86-64" in done.stderr), ("", 1, True))
+
+
+class FirstBlock(Case):
+    """README's first block, pasted whole next to a made-up archive and its sums."""
+
+    def pasted(self, listed, spoils=False):
+        room = self.enterContext(tempfile.TemporaryDirectory())
+        folder = f"{room}/kubelet-replay-1.0-x86_64-linux"
+        os.mkdir(folder)
+        with open(f"{folder}/kubelet-replay", "w", encoding="utf-8") as file:
+            file.write("#!/bin/sh\necho \"$* OOM-killed evicted\"\n")
+        os.chmod(f"{folder}/kubelet-replay", 0o755)
+        name = os.path.basename(folder)
+        subprocess.run(["tar", "-czf", f"{name}.tar.gz", name], cwd=room, check=True)
+        shutil.rmtree(folder)
+        with open(f"{room}/other", "w", encoding="utf-8") as file:
+            file.write("other\n")
+        with open(f"{room}/SHA256SUMS", "w", encoding="utf-8") as file:
+            subprocess.run(["sha256sum", "other", *([f"{name}.tar.gz"] if listed else [])], cwd=room, check=True,
+                           stdout=file)
+        if spoils:
+            with open(f"{room}/{name}.tar.gz", "ab") as file:
+                file.write(b"more")
+        block = next(part for part in read(TOP, "README.md").split("\n\n") if part.startswith("    archive="))
+        done = subprocess.run(["bash"], input=block + "\n", cwd=room, capture_output=True, text=True, check=False)
+        return os.path.isdir(folder), done.stdout.splitlines()
+
+    def test_the_whole_block(self):
+        self.assertEqual(self.pasted(True), (True, [
+            "kubelet-replay-1.0-x86_64-linux.tar.gz: OK",
+            "why -f examples/recorded/out_of_memory.trace shop/oom OOM-killed evicted",
+            "run -f examples/memory_pressure.trace OOM-killed evicted"]))
+
+    def test_what_is_never_unpacked(self):
+        """An archive that the sums don't list, and one that is another than they list."""
+        self.assertEqual(self.pasted(False), (False, []))
+        self.assertEqual(self.pasted(True, spoils=True), (False, ["kubelet-replay-1.0-x86_64-linux.tar.gz: FAILED"]))
 
 
 class Signed(Case):

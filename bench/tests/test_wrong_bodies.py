@@ -8,6 +8,7 @@ import tempfile
 
 from common import LONGEST, SMALL, TESTS, TOP, Case, commands_in, lay_over, read, run, write
 import edits
+import gate_page
 import shelf
 
 HERE = os.path.join(TESTS, "wrong_bodies")
@@ -79,7 +80,8 @@ class Shelf(Case):
 
     def test_each_edit_fits_its_file(self):
         for name in sorted(os.listdir(f"{TOP}/crates")):
-            for edit in (*edits.paths_of(TOP, name, "wrong-bodies"), *edits.paths_of(TOP, name, "must-fail")):
+            for edit in (path for part in ("wrong-bodies", shelf.UNTRIED, "must-fail")
+                         for path in edits.paths_of(TOP, name, part)):
                 with self.subTest(edit):
                     self.assertIsNotNone(edits.texts_of(edit, f"{TOP}/crates/{name}"))
 
@@ -87,6 +89,10 @@ class Shelf(Case):
         rows = {row["crate"]: int(row["edits"]) for row in shelf.read_found(TOP)}
         counts = {name: len(edits.paths_of(TOP, name, "wrong-bodies")) for name in os.listdir(f"{TOP}/crates")}
         self.assertEqual(rows, {name: count for name, count in counts.items() if count})
+
+    def test_the_page_has_each_row_and_what_waits(self):
+        said = read(TOP, "docs/gate.md").partition(gate_page.OUTSIDE)[2].partition(gate_page.REPLAYS)[0]
+        self.assertEqual((gate_page.OUTSIDE + said).split("\n"), "\n".join([*gate_page.shelf(TOP), ""]).split("\n"))
 
     def test_each_edit_was_judged(self):
         for row in shelf.read_found(TOP):

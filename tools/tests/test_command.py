@@ -323,6 +323,28 @@ def test_packed_reports():
     shutil.rmtree(folder)
 
 
+ELSEWHERE = """
+import sys
+from replay_tools import tree
+from replay_tools.plugin import files
+files.OPEN_FILES = "/nonexistent"
+sys.exit(tree.start(sys.argv[1:]))
+"""
+
+
+def test_without_open_files():
+    """On a system that has no /proc, as macOS, a report is read from a pipe and unpacked too, and no copy is left."""
+    with tempfile.TemporaryDirectory() as folder, open(REPORT, "rb") as report:
+        os.mkdir(f"{folder}/kept")
+        with gzip.open(f"{folder}/x.report.gz", "wb") as file:
+            file.write(report.read())
+        settings = {"PYTHONPATH": TOOLS, "TMPDIR": f"{folder}/kept"}
+        for words in (["story", "-f", f"{folder}/x.report.gz", "a"], ["story", "-f", "-", "a"], ["page", "-f", "-"]):
+            answer = run([sys.executable, "-c", ELSEWHERE, "kubelet-replay", *words], read(REPORT), **settings)
+            expect(f"{words} elsewhere", answer, run([COMMAND, *words], read(REPORT)))
+        expect("elsewhere: no copy is left", os.listdir(f"{folder}/kept"), [])
+
+
 def test_command_fails_on():
     """Run with --fail-on writes the same report, and has a status of its own where something happened."""
     crash, first = f"{TOP}/examples/crash_loop.trace", f"{TOP}/examples/first_tick.trace"

@@ -4,7 +4,7 @@ import cases
 from checks import expect
 
 from replay_tools import dates, entry
-from replay_tools.importing import moments
+from replay_tools.importing import moments, records
 from replay_tools.joined import asked, files
 from replay_tools.record import runtime
 
@@ -38,6 +38,11 @@ def test_each_reader_of_times():
         expect(f"an import reads {day}{zone}", moments.moment_of_iso(f"{day}T00:00:00{zone}"), wanted)
         if zone == "Z":
             expect(f"the name of a trace has {day}", files.begun_of(f"{day}T00-00-00Z"), wanted)
+    for text, wanted in (("Feb 28, 2026 @ 13:00:00.500", 1772283600.5), ("2/28/2026, 1:00:00.000 PM", 1772283600),
+                         ("2/28/2026, 12:00:00 AM", 1772236800), ("Feb 31, 2026 @ 13:00:00.500", None),
+                         ("Feb 28, 1969 @ 13:00:00.000", None), ("Foo 28, 2026 @ 13:00:00.000", None),
+                         ("2/31/2026, 1:00:00.000 PM", None), ("2/28/2026, 13:00:00 PM", None)):
+        expect(f"an import reads {text}", records.moment_of(text), wanted)
     expect("--at of a day that there is not", fault_of("2026-02-31T03:10Z"), "--at 2026-02-31T03:10Z is no time that "
            "there is")
     expect("--at of a zone that there is not", fault_of("03:10+99:00"), "--at 03:10+99:00: there is no zone +99:00")

@@ -109,6 +109,7 @@ def test_readers():
         expect(f"metrics: what {os.path.basename(name)} asks for", (asked - there, asked != set()), (set(), True))
     expect("metrics: the panels", len(json.loads(read(DASHBOARD))["panels"]), 10)
     if shutil.which("promtool") is None:
+        print("left out: metrics and rules by promtool, since that is missing")
         return
     # promtool reads the older form, in which the type and the help of a counter have the name of its samples
     older = re.sub(r"(?m)^# TYPE (\S+) counter\n((?:# UNIT .*\n)?)# HELP \1 ",
@@ -169,6 +170,7 @@ def test_alerts():
     """An alert, and the panel of deaths, shows the first death and the first eviction too, which a series begins with,
     and no old one."""
     if shutil.which("promtool") is None:
+        print("left out: alerts by promtool, since that is missing")
         return
     text = ALERTS.replace("{rules}", RULES)
     for alert, minutes, names in FIRED:

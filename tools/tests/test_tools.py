@@ -1,6 +1,8 @@
 """The tests of what several tools share: stories, pictures and edits of kept recordings, their words, versions and
 helps, and the commands that they need."""
 
+import ast
+import glob
 import importlib
 import os
 import re
@@ -386,6 +388,43 @@ def test_help():
         details = importlib.import_module(f"replay_tools.manual.{command.module}").TEXT
         expect(f"the manual of {command.name} has what it needs and leaves out", [words in details for words in (
             "It needs python3", "leaves out", "\n\nStatus 0: ")], [True] * 3)
+
+
+# what only a checkout has, and where the package may name it: the program that is built there, and what tests write
+OF_A_CHECKOUT = re.compile(r"(?<![\w/])(?:tools|bench|crates)/|\./(?:kubelet_replay|test)\b")
+MAY_NAME_IT = ("program.py", "cli/table.py", "cli/powershell.py")
+
+
+def texts_of(path):
+    """The texts of a module of the package, without docstrings."""
+    tree = ast.parse(read(path))
+    owners = [node for node in ast.walk(tree) if isinstance(node, (ast.Module, ast.ClassDef, ast.FunctionDef))]
+    docs = {id(node.body[0].value) for node in owners if node.body and isinstance(node.body[0], ast.Expr)}
+    return [node.value for node in ast.walk(tree)
+            if isinstance(node, ast.Constant) and isinstance(node.value, str) and id(node) not in docs]
+
+
+def test_hints():
+    """No text of the tools names what only a checkout has."""
+    package = f"{TOOLS}/replay_tools"
+    paths = [path for path in glob.glob("**/*.py", root_dir=package, recursive=True) if path not in MAY_NAME_IT]
+    expect("hints", [(path, text) for path in sorted(paths) for text in texts_of(f"{package}/{path}")
+                     if OF_A_CHECKOUT.search(text)], [])
+
+
+OLDER = """
+import runpy, sys
+sys.version_info, sys.argv = (3, 8, 10, "final", 0), sys.argv[1:]
+runpy.run_path(sys.argv[0], run_name="__main__")
+"""
+
+
+def test_an_older_python():
+    """One line has which Python is needed, and which there is."""
+    for name in ("story", "kubelet-replay", "kubectl-replay"):
+        answer = run([sys.executable, "-c", OLDER, f"{TOOLS}/replay_tools/__main__.py", name, "--version"])
+        expect(f"{name} by an older Python", answer,
+               (1, "", f"{name}: needs Python 3.9 or later, and python3 is 3.8\n"))
 
 
 def test_missing_commands():

@@ -106,6 +106,15 @@ def test_pods_that_are_gone():
         expect("the pod of another Deployment", (f"{OLD}-bbbbb" in told, f"{NEW}-aaaaa" in told), (False, True))
 
 
+def test_recorders_are_asked_at_once():
+    """None of them answers before all are asked."""
+    with Cluster() as cluster:
+        cluster.put("meets", "3")
+        status, told, said = cluster.run("story", "pod/none", "--timeout", "60", *SINCE)
+        expect("recorders that wait for each other", (status, told, said.count("\n"), sorted(set(kept(cluster, "listed")))),
+               (1, "", 1, ["recorder-a", "recorder-b", "recorder-c"]))
+
+
 def test_cut_names():
     """As of a file, a name may be cut if it fits one pod, whether the API server or a trace has it."""
     with Cluster() as cluster:

@@ -5,6 +5,7 @@ Faults are: a stale page; a row of a table that is not as it has to be; an edit 
 """
 import os
 
+import crates
 from edits import paths_of
 from gate_edits import edits_in, without_words
 from gate_figures import read_figures
@@ -14,9 +15,9 @@ from written import differences, text_at, write_anew
 
 def edits_of_the_gate(top):
     """The crate and the name of each."""
-    crates = os.path.join(top, "crates")
+    folder = os.path.join(top, "crates")
     return [(crate, os.path.basename(path).removesuffix(".edit"))
-            for crate in (sorted(os.listdir(crates)) if os.path.isdir(crates) else ())
+            for crate in (sorted(os.listdir(folder)) if os.path.isdir(folder) else ())
             for path in paths_of(top, crate, "must-fail")]
 
 
@@ -30,7 +31,7 @@ def faults(top, checks):
     if wrong := without_words(edits, edits_of_the_gate(top)):
         return [wrong]
     spent = {name: figure.edits for name, figure in read_figures(top).items()}
-    texts = {"planted.md": page_of(rows_in(text_of(top, "planted.tsv")), edits, spent)}
+    texts = {"planted.md": page_of(rows_in(text_of(top, "planted.tsv")), edits, spent, crates.read_crates(top))}
     if checks:
         return differences(top, texts, "bench/planted")
     write_anew(top, texts)

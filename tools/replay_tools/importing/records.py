@@ -4,16 +4,14 @@ export them. Any text of a record that begins as a line of klog's or of a runtim
 
 from __future__ import annotations
 
-import calendar
 import csv
 import json
 import re
-import time
 from collections.abc import Iterable, Iterator
 from dataclasses import dataclass, field
 from typing import Any, Optional
 
-from replay_tools import outside
+from replay_tools import dates, outside
 
 from .journals import LONGEST_LINE, MOST_PARTS, Counts, Line, of_record
 from .holes import Numbers
@@ -32,8 +30,11 @@ NAMES = frozenset((*STAMPS, *UNITS, *NODES))
 DEEPEST, MOST_VALUES = 12, 2000
 DIGITS = re.compile(r"\d{10,19}(?:\.\d{1,9})?")
 # moments as pages of Kibana and of Azure write them
-KIBANA = re.compile(r"([A-Z][a-z]{2}) (\d{1,2}), (\d{4}) @ (\d\d:\d\d:\d\d)(\.\d{1,9})?")
-AZURE = re.compile(r"(\d{1,2}/\d{1,2}/\d{4}),? (\d{1,2}:\d\d:\d\d)(\.\d{1,9})? ([AP]M)")
+KIBANA = re.compile(r"(?P<month>[A-Z][a-z]{2}) (?P<day>\d{1,2}), (?P<year>\d{4}) @ (?P<hour>\d\d):(?P<minute>\d\d)"
+                    r":(?P<second>\d\d)(?P<fraction>\.\d{1,9})?")
+AZURE = re.compile(r"(?P<month>\d{1,2})/(?P<day>\d{1,2})/(?P<year>\d{4}),? (?P<hour>\d{1,2}):(?P<minute>\d\d)"
+                   r":(?P<second>\d\d)(?P<fraction>\.\d{1,9})? (?P<half>[AP]M)")
+MONTHS = "Jan", "Feb", "Mar", "Apr", "May", "Jun", "Jul", "Aug", "Sep", "Oct", "Nov", "Dec"
 JOURNALD = "MESSAGE", "__REALTIME_TIMESTAMP"
 DOCKER = "log", "stream"
 # what is before a record of journalctl -o json-seq, and of -o json-sse
@@ -82,17 +83,29 @@ def moment_of_text(text: str) -> Optional[float]:
     found = moment_of_iso(text[:64].strip())
     if found is not None:
         return found
-    for form, pattern in ((KIBANA, "%b %d %Y %H:%M:%S"), (AZURE, "%m/%d/%Y %I:%M:%S %p")):
-        parts = form.match(text)
-        if parts is None:
-            continue
-        said = " ".join(parts.group(1, 2, 3, 4)) if form is KIBANA else " ".join(parts.group(1, 2, 4))
-        fraction = parts[5] if form is KIBANA else parts[3]
-        try:
-            return calendar.timegm(time.strptime(said, pattern)) + float(f"0{fraction or '.0'}")
-        except ValueError:
-            return None
-    return None
+    parts = KIBANA.match(text) or AZURE.match(text)
+    if parts is None:
+        return None
+    month, hour = month_of(parts["month"]), hour_of(int(parts["hour"]), parts.groupdict().get("half"))
+    if month is None or hour is None:
+        return None
+    seconds = dates.seconds_of(int(parts["year"]), month, int(parts["day"]), hour, int(parts["minute"]),
+                               int(parts["second"]))
+    return None if seconds is None else seconds + float(f"0{parts['fraction'] or '.0'}")
+
+
+def month_of(text: str) -> Optional[int]:
+    """The number of a month, which a text has as such or by its English name."""
+    if text.isdigit():
+        return int(text)
+    return MONTHS.index(text) + 1 if text in MONTHS else None
+
+
+def hour_of(hour: int, half: Optional[str]) -> Optional[int]:
+    """The hour of the day; of a half of the day, AM or PM, its hours are 1 to 12."""
+    if half is None:
+        return hour
+    return hour % 12 + 12 * (half == "PM") if 1 <= hour <= 12 else None
 
 
 def look_through(value: Any, name: str, found: Found, depth: int = 0) -> None:

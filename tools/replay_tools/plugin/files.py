@@ -17,6 +17,8 @@ from replay_tools.joined import files as traces_of
 LONGEST_LINE = 1 << 21
 PIECE = 1 << 16
 REPORT = b"node "
+# where Linux has the files that a process has open; macOS has nothing like it
+OPEN_FILES = "/proc/self/fd"
 
 
 def is_report(path: str) -> bool:
@@ -244,14 +246,35 @@ def hand_on(source: IO[bytes]) -> None:
 def path_of(file: IO[bytes]) -> str:
     """The path of an open file without a name, as long as this process lasts, also for the programs that this one
     starts or becomes."""
+    if not os.path.isdir(OPEN_FILES):
+        return path_of_copy(file)
     descriptor = os.dup(file.fileno())
     os.set_inheritable(descriptor, True)
     return f"/proc/{os.getpid()}/fd/{descriptor}"
 
 
+def path_of_copy(file: IO[bytes]) -> str:
+    """The path of a copy that has a name. It goes when this process ends."""
+    import atexit
+    import shutil
+    import tempfile
+    try:
+        with tempfile.NamedTemporaryFile(prefix="kubelet-replay-", delete=False) as copy:
+            atexit.register(os.unlink, copy.name)
+            file.seek(0)
+            shutil.copyfileobj(file, copy)
+    except OSError as fault:
+        raise no_room(fault.strerror) from None
+    return copy.name
+
+
 def shown(path: str) -> str:
     """A path as the operator knows it."""
-    return "standard input" if path.startswith(f"/proc/{os.getpid()}/fd/") else path
+    return "standard input" if path in of_input else path
+
+
+# the paths by which standard input is read twice
+of_input: set[str] = set()
 
 
 def kept_input() -> str:
@@ -259,7 +282,9 @@ def kept_input() -> str:
     given = entry.standard_input()
     if given.isatty():
         raise entry.Fault("-f - needs a trace or a report on standard input")
-    return path_of(whole(given, "standard input"))
+    path = path_of(whole(given, "standard input"))
+    of_input.add(path)
+    return path
 
 
 def make_input(report: IO[bytes]) -> None:
