@@ -204,6 +204,7 @@ def container_lane(picture: Picture, lane: made.Lane, trace: traces.Trace | None
             continue
         for event in run:
             order_mark(picture, event, y, trace)
+            kill_text(picture, event, lane.states, y)
 
 
 def said_marks(picture: Picture, said: list[Said], y: float) -> None:
@@ -294,6 +295,15 @@ def order_mark(picture: Picture, event: reports.Event, y: float, trace: traces.T
                       f"{telling.more_words(event, trace)}")
     elif event.word == "restart":
         picture.dot(x, y + BAR / 2, f"{name}: restart of attempt {event.rest[0]} at {picture.moment(event.at)}")
+
+
+def kill_text(picture: Picture, event: reports.Event, states: list[made.State], y: float) -> None:
+    """The probe of a kill order, to the left of its mark where there is room for it in the bar of the instance."""
+    begin = next((picture.x(picture.first if state.since is None else state.since) for state in states
+                  if event.word == "kill" and state.died is None and str(state.attempt) == event.rest[0]), None)
+    if begin is not None and 16 + 0.8 * width_of(event.rest[1]) <= picture.x(event.at) - begin:
+        picture.parts.append(f'<text x="{picture.x(event.at) - 7:.1f}" y="{y + BAR - 3:.1f}" text-anchor="end" '
+                             f'style="font-size:10px;fill:#ffffff">{event.rest[1]}</text>')
 
 
 def ended_words(picture: Picture, pod: reports.Pod, kubelet: kubelets.Kubelet | None) -> str:

@@ -100,6 +100,9 @@ def test_picture_of_what_was_said():
               "web: kill order at 15 (liveness) (HTTP 503)"]
     expect("timeline: what was said", [each for each in wanted if each not in titles], [])
     expect("timeline: its legend", ">reported of it<" in picture, True)
+    texts = re.findall(r'<text [^>]*style[^>]*>([^<]*)<', picture)
+    expect("timeline: the probe of a kill is there without a title", "liveness" in texts, True)
+    expect("timeline: it ends with the trace", re.findall(r'class="title">([^<]*)<', picture), ["worker-3, 0 to 26 s"])
     expect("timeline: of nothing said there is nothing", "said" in drawn_of({}, "timeline", "--trace"), False)
 
 
