@@ -69,6 +69,20 @@ def test_import_of_pods_that_turn_unready_by_a_restart():
         expect(f"import of unready pods, {name}: no probe failed", failures, [])
 
 
+def test_import_of_two_restarts():
+    """A pod that no line names after either is one pod."""
+    journal = Journal(True).loop(0, "ADD").look(1, "Started", "a").look(1.001, "Started", "5")
+    other = Journal(True, "calm", UID.replace("1", "7")).loop(0, "ADD").look(1, "Started", "b")
+    other.look(1.001, "Started", "6")
+    for process, at in ((10, 60), (11, 900)):
+        journal.process = process
+        journal.say(at, "Started kubelet").loop(at + 1, "ADD").loop(at + 800, "UPDATE")
+    status, records, said = imported(journal.text(other), [pod(), pod("calm", UID.replace("1", "7"))])
+    gaps = [tick for tick in ticks_of(records) if "gap" in tick]
+    expect("import of two restarts", (status, len(gaps), [line for line in said.splitlines() if "after a gap" in line]), (
+        0, 2, ["import: 1 pod that no line after a gap names (shop/calm): as before it"]))
+
+
 def test_import_of_restarts_in_a_folder():
     """Of traces one after the other the one that begins with the restart has its moment, by the clock of then."""
     with tempfile.TemporaryDirectory() as folder:

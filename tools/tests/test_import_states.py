@@ -284,6 +284,24 @@ def test_import_of_gates_and_resources_of_a_pod():
            (0, None, {"limits": {"memory": "1Gi"}}))
 
 
+def test_import_of_more_pods_than_a_trace_has():
+    """A trace alone has at most 256 pods; the counts agree with each other."""
+    journals = []
+    for number in range(258):
+        journal = Journal(True, f"web-{number:03}", f"11111111-2222-3333-4444-{number:012}").loop(number, "ADD")
+        for letter in "ab":
+            event = (f'event: &pleg.PodLifecycleEvent{{ID:"{journal.uid}", Type:"ContainerStarted", '
+                     f'Data:"{letter}{number:063x}"}}')
+            journal.say(number + 1, f'SyncLoop (PLEG): "{journal.placed}", {event}')
+        journals.append(journal)
+    status, records, said = imported(journals[0].text(*journals[1:]))
+    counts = [line.rpartition(": ")[2] for line in said.splitlines() if "starts and exits" in line]
+    expect("import of more pods than a trace has", (status, sum(each["kind"] == "pod" for each in records), counts, [
+        line for line in said.splitlines() if "left out" in line]), (0, 256, ["256 pods; starts and exits 516"], [
+            "import: 2 pods left out (shop/web-256, shop/web-257): a trace alone has at most 256, and with --into each "
+            "has 256 at once"]))
+
+
 def test_import_of_many_instances():
     """It takes as long for each of many starts of one pod as for each of a few."""
     seconds = []

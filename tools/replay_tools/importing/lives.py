@@ -88,6 +88,8 @@ class Life(Account):
         self.is_deleting = False
         self.is_over = False
         self.is_refused = False
+        # whether it was unknown after a gap what it does
+        self.is_doubted = False
         # from when on something of it is to be placed, as far as lines show by now
         self.due_at = HEARD
         # whether its manifest was made of lines, and the names of containers that lines have only after its own
