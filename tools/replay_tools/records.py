@@ -26,7 +26,8 @@ def records_of(report: reports.Report, kubelet: kubelets.Kubelet | None = None, 
     yield node_record(report, span[0] if span else first_moment(report), last, known) | (
         {} if kubelet is None else {"tells_kubelet": True}) | of_trace(trace)
     for number, event in enumerate(report.events):
-        yield event_record(report, number, event) | reason_fields(event, trace) | restart_fields(report, event, trace)
+        yield (event_record(report, number, event) | moment_fields(event, trace) | reason_fields(event, trace)
+               | restart_fields(report, event, trace))
     for number, border in enumerate(report.borders):
         yield border_record(report, number, border)
     ranked = summing.summaries(report, trace, kubelet, last, known)
@@ -103,6 +104,11 @@ def event_record(report: reports.Report, number: int, event: reports.Event) -> d
     if event.anew is not None and kind.is_counted:
         record["counted_anew_since"] = event.anew
     return record | kind.values(event.rest)
+
+
+def moment_fields(event: reports.Event, trace: traces.Trace | None) -> dict[str, Any]:
+    """That the moment of a start or a death is guessed, as a trace marks it."""
+    return {"moment_is_known": False} if trace is not None and trace.reasons.within_words(event) else {}
 
 
 def reason_fields(event: reports.Event, trace: traces.Trace | None) -> dict[str, Any]:

@@ -30,7 +30,8 @@ TABLES = {
                         "container TEXT, attempt INTEGER, code INTEGER, code_is_known INTEGER, reason TEXT, "
                         "message TEXT, probe TEXT, delay_seconds INTEGER, "
                         "phase TEXT, signal TEXT, kind TEXT, active INTEGER, condition TEXT, value INTEGER, "
-                        "grace_seconds INTEGER, counted_anew_since INTEGER, so_before INTEGER, restart_words TEXT"),
+                        "grace_seconds INTEGER, counted_anew_since INTEGER, so_before INTEGER, restart_words TEXT, "
+                        "moment_is_known INTEGER"),
     "condition": ("conditions", "node TEXT, pod TEXT, pod_number INTEGER, condition TEXT, value INTEGER, "
                                 "since INTEGER, reason TEXT"),
     "eviction": ("evictions", "node TEXT, number INTEGER, at INTEGER, pod TEXT, pod_number INTEGER, signal TEXT, "

@@ -45,7 +45,7 @@ def test_import_of_a_wait_of_what_was_taken_to_run():
     status, records, _ = imported(journal.text(), [pod()])
     last = entries_of(records)[-1][1]
     expect("import of a wait of what was taken to run", (status, is_accepted(records), states_of(records)[-1]), (
-        0, True, (60, "app", 0, "EXITED", 137, ("moment", "exitCode"))))
+        0, True, (60, "app", 0, "EXITED", 137, ("exitCode", "exit"))))
     expect("import of a wait of what was taken to run: it waits", [each["reason"] for each in last["waiting"]], [
         "CrashLoopBackOff"])
 
@@ -67,10 +67,10 @@ def test_import_of_exits_that_no_line_has():
     expect("import of exits that no line has", (status, is_accepted(records)), (0, True))
     expect("import of exits that no line has: what is listed", states_of(records), [
         (2, "app", 0, "RUNNING", None, ()), (41, "app", 1, "RUNNING", None, ()),
-        (150, "app", 1, "EXITED", 137, ("exitCode", "moment")), (201, "app", 2, "RUNNING", None, ())])
+        (150, "app", 1, "EXITED", 137, ("exitCode", "exit")), (201, "app", 2, "RUNNING", None, ())])
     ended = [each["ended"] for _, entry in entries_of(records) for each in entry["containers"] if "ended" in each]
     expect("import of exits that no line has: in the tick of the next start", ended[0], {
-        "attempt": 0, "exitCode": 137, "guessed": ["exitCode", "moment"]})
+        "attempt": 0, "exitCode": 137, "guessed": ["exitCode", "exit"]})
     expect("import of exits that no line has: what is said", "2 of 2 exits without a code" in said, True)
 
 

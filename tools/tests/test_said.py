@@ -121,3 +121,28 @@ def test_moments_within_a_second():
                       or "(within a second) (attempt 0); killed" in line]
             expect(f"{tool}: moments within a second", [place for place in marked if place in ("20", "21")][:2],
                    ["20", "21"])
+        lines = run([f"{TOOLS}/json", "--trace", f"{folder}/trace"], read(f"{EXAMPLE}.report"))[1].splitlines()
+        guessed = [(each["event"], each["at"]) for each in map(json.loads, lines)
+                   if each.get("moment_is_known") is False]
+        expect("json: moments within a second", guessed, [("died", 20), ("started", 21)])
+        [pod] = data_in(run([f"{TOOLS}/page", f"{folder}/trace"], read(f"{EXAMPLE}.report"))[1])["podList"]
+        expect("page: moments within a second", list(pod["more"].values()), [" (within a second)"] * 2)
+
+
+def test_exits_that_no_line_has():
+    """An exit that only what came after it shows has happened by its moment, and is not shown as seen there."""
+    text, report = read(f"{EXAMPLE}.trace"), read(f"{EXAMPLE}.report")
+    exited = '"CONTAINER_EXITED","exitCode":137'
+    text = text.replace(exited, f'{exited},"guessed":["exitCode","exit"]')
+    with tempfile.TemporaryDirectory() as folder:
+        with open(f"{folder}/trace", "w", encoding="utf-8") as file:
+            file.write(text)
+        for tool in ("story", "why"):
+            told = run([f"{TOOLS}/{tool}", "shop/web-0", "--trace", f"{folder}/trace"], report)[1]
+            expect(f"{tool}: an exit that no line has", ("died, code unknown (by then: no line has the exit)" in told,
+                                                        "within a second" in told), (True, False))
+        [died] = [each for each in map(json.loads, run([f"{TOOLS}/json", "--trace", f"{folder}/trace"],
+                                                       report)[1].splitlines()) if each.get("event") == "died"]
+        expect("json: an exit that no line has", (died["code"], died["moment_is_known"]), (None, False))
+        [pod] = data_in(run([f"{TOOLS}/page", f"{folder}/trace"], report)[1])["podList"]
+        expect("page: an exit that no line has", list(pod["more"].values()), [" (by then: no line has the exit)"])

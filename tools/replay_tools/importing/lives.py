@@ -316,7 +316,7 @@ class Life(Account):
             return
         code, is_guessed = self.code_of(pod, chain, instance, placing)
         placing.mark(self, name, instance.written, [marks.CODE] if is_guessed else [],
-                     [marks.LOST] if instance.is_lost else [] if instance.finished is not None else [marks.MOMENT])
+                     [marks.EXIT] if instance.is_lost else [] if instance.finished is not None else [marks.MOMENT])
         placing.count("exits without their code" if is_guessed else "exits with their code")
         reason = None if instance.reason is None else reason_of({"reason": instance.reason})
         listing = Listing(instance.written, EXITED, code, reason)
