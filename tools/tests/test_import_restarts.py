@@ -79,7 +79,8 @@ def test_import_of_two_restarts():
         journal.say(at, "Started kubelet").loop(at + 1, "ADD").loop(at + 800, "UPDATE")
     status, records, said = imported(journal.text(other), [pod(), pod("calm", UID.replace("1", "7"))])
     gaps = [tick for tick in ticks_of(records) if "gap" in tick]
-    expect("import of two restarts", (status, len(gaps), [line for line in said.splitlines() if "after a gap" in line]), (
+    told = [line for line in said.splitlines() if "after a gap" in line]
+    expect("import of two restarts", (status, len(gaps), told), (
         0, 2, ["import: 1 pod that no line after a gap names (shop/calm): as before it"]))
 
 
