@@ -6,10 +6,10 @@ from __future__ import annotations
 from collections.abc import Callable
 from typing import TYPE_CHECKING
 
-from replay_tools import entry
+from replay_tools import entry, report as reports
 
 if TYPE_CHECKING:
-    from replay_tools import report as reports, traces
+    from replay_tools import traces
 
 UNKNOWN_MANIFEST = "its manifest is unknown"
 UNKNOWN_CLASS = "class unknown"
@@ -30,6 +30,12 @@ def phase_words(trace: traces.Trace | None, pod: reports.Pod) -> str:
     """A pod's phase as its report has it, unless the code that decides it was guessed."""
     is_unknown = trace is not None and pod.number in trace.reasons.unknown_phases
     return UNKNOWN_PHASE if is_unknown and pod.phase in ("Succeeded", "Failed") and pod.reason == "-" else pod.phase
+
+
+def end_of(trace: traces.Trace | None, pod: reports.Pod) -> tuple[int, str] | None:
+    """The moment at which a pod ended, and as what, which may be unknown; None where it did not."""
+    end = reports.end_of(pod)
+    return None if end is None else (end[0], phase_words(trace, pod) if end[1] == pod.phase else end[1])
 
 
 def manifest_lines(pod: traces.Pod | None) -> list[str]:

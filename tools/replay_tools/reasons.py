@@ -258,6 +258,12 @@ def cause_words(event: reports.Event, code: int, trace: traces.Trace | None, is_
     return "it was no longer listed, its own code is not known"
 
 
+def is_phase_unknown(event: reports.Event, trace: traces.Trace | None) -> bool:
+    """Whether an event is the end of a pod of which no known code shows whether it succeeded."""
+    return (event.word == "phase" and event.rest[0] in ("Succeeded", "Failed") and trace is not None
+            and event.number in trace.reasons.unknown_phases)
+
+
 def short_words(event: reports.Event, trace: traces.Trace | None) -> str:
     """The code of a death and the reason, as far as they are known, as a lane has them."""
     end = trace.reasons.end_of(event) if trace is not None else None

@@ -112,7 +112,10 @@ def moment_fields(event: reports.Event, trace: traces.Trace | None) -> dict[str,
 
 
 def reason_fields(event: reports.Event, trace: traces.Trace | None) -> dict[str, Any]:
-    """Of a death why, as a trace shows it: whether the code is the instance's own, the reason, the message."""
+    """Of a death why, as a trace shows it: whether the code is the instance's own, the reason, the message; and of the
+    end of a pod that its phase is unknown."""
+    if reasons.is_phase_unknown(event, trace):
+        return {"phase_is_unknown": True}
     if event.word != "died" or trace is None:
         return {}
     end = trace.reasons.end_of(event)
@@ -154,7 +157,7 @@ def manifest_fields(pod: reports.Pod, trace: traces.Trace | None) -> dict[str, A
     is_guessed = trace is not None and trace.pods[pod.number].is_guessed
     found: dict[str, Any] = {"qos": None, "manifest_is_unknown": True} if is_guessed else {}
     is_unknown = provenance.phase_words(trace, pod) == provenance.UNKNOWN_PHASE
-    return found | ({"phase": None, "phase_is_unknown": True} if is_unknown else {})
+    return found | ({"phase": None, "ended_as": None, "phase_is_unknown": True} if is_unknown else {})
 
 
 def deletion_fields(pod: reports.Pod, trace: traces.Trace | None) -> dict[str, Any]:

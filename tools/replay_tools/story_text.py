@@ -151,7 +151,7 @@ def story(given: asking.Given, pod: reports.Pod, show: Show, kubelet: kubelets.K
     ours = trace.pods[pod.number] if trace else None
     containers = [[found.name, found.state, reasons.code_words(found.code, reasons.last_end(pod, found, trace)),
                    found.restarts, found.ready, found.started] for found in pod.containers]
-    ended = reports.end_of(pod)
+    ended = provenance.end_of(trace, pod)
     reason = "" if pod.reason == "-" else f" ({pod.reason})"
     is_evicted = kubelet is not None and (pod.reason == "Evicted" or kubelet.fact(pod.number) is not None)
     names = kubelet is not None and kubelet.names

@@ -31,7 +31,7 @@ TABLES = {
                         "message TEXT, probe TEXT, delay_seconds INTEGER, "
                         "phase TEXT, signal TEXT, kind TEXT, active INTEGER, condition TEXT, value INTEGER, "
                         "grace_seconds INTEGER, counted_anew_since INTEGER, so_before INTEGER, restart_words TEXT, "
-                        "moment_is_known INTEGER"),
+                        "moment_is_known INTEGER, phase_is_unknown INTEGER"),
     "condition": ("conditions", "node TEXT, pod TEXT, pod_number INTEGER, condition TEXT, value INTEGER, "
                                 "since INTEGER, reason TEXT"),
     "eviction": ("evictions", "node TEXT, number INTEGER, at INTEGER, pod TEXT, pod_number INTEGER, signal TEXT, "
