@@ -336,7 +336,8 @@ def pod_lanes(picture: Picture, report: reports.Report, pod: reports.Pod, kubele
     ended += f", gone before {picture.moment(pod.left)}" if pod.left is not None else ""
     named = pod.key + reports.number_words(report, pod)
     classed = provenance.class_words(trace.pods[pod.number] if trace else None, pod.qos)
-    picture.text(14, y + 13, f"{short(named, 800)}: {ended}", "pod", title=f"{named}: {provenance.phase_words(trace, pod)}, {classed}")
+    picture.text(14, y + 13, f"{short(named, 800)}: {ended}", "pod",
+                 title=f"{named}: {provenance.phase_words(trace, pod)}, {classed}")
     y += HEAD
     label(picture, y + STRIP + 1, "Ready", "small")
     for span in lanes.ready:

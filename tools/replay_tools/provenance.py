@@ -44,6 +44,14 @@ def manifest_lines(pod: traces.Pod | None) -> list[str]:
     return [f"{UNKNOWN_MANIFEST}: limits, probes, class and restart policy are unknown too"]
 
 
+def doubt_lines(trace: traces.Trace | None, pod: reports.Pod, show: Callable[[int], str]) -> list[str]:
+    """That after a gap nothing shows what a pod's containers do."""
+    at = None if trace is None else trace.reasons.doubted.get(pod.number)
+    if at is None:
+        return []
+    return [f"what it did at {show(at)} is guessed, as before a gap: no line after it has the pod"]
+
+
 def head_lines(trace: traces.Trace | None, show: Callable[[int], str]) -> list[str]:
     """Lines above all stories of a trace."""
     if trace is None:

@@ -25,6 +25,8 @@ OF_LISTING = frozenset(("ended", "guessed", "reason"))
 # in the array of members that were guessed, as of a log that has no code of an exit, of a start or an exit only the
 # moment of the kubelet's next poll, and of an exit nothing at all
 CODE, MOMENT, EXIT, PHASE = "exitCode", "moment", "exit", "phase"
+# and of a container after a gap what it does, since no line there names its pod
+STATE = "state"
 WITHIN, BY_THEN = " (within a second)", " (by then: no line has the exit)"
 CLOSED = "readiness gate", None
 
@@ -79,6 +81,8 @@ class Reasons:
         """how the condition Ready has turned in the kubelet's status: its status by the moment, by the pod's number"""
         self.unknown_phases: set[int] = set()
         """the numbers of pods that have ended, and of which no code shows whether they succeeded"""
+        self.doubted: dict[int, int] = {}
+        """the last moments after gaps at which it is guessed what a pod's containers do, by the pod's number"""
         self.looked: set[tuple[str, int, str, int]] = set()
         """the starts and deaths that are known by a poll: the event's word, the pod's number, container and attempt"""
         self.unseen: set[tuple[int, str, int]] = set()
@@ -94,6 +98,8 @@ class Reasons:
             for each in listed if isinstance(listed, list) else ():
                 if isinstance(each, dict) and not OF_LISTING.isdisjoint(each):
                     self.take_listing(present[key].number, each)
+                    if is_guessed_in(each, STATE):
+                        self.doubted[present[key].number] = at
         for key, found in others.items():
             if not OF_ENTRY.isdisjoint(found):
                 number = present[key].number

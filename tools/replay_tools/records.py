@@ -153,11 +153,13 @@ def pod_record(report: reports.Report, pod: reports.Pod, rank: int, summary: sum
 
 
 def manifest_fields(pod: reports.Pod, trace: traces.Trace | None) -> dict[str, Any]:
-    """Where its manifest is unknown, that it is, and with it the class; the same of its phase."""
+    """Where its manifest is unknown, that it is, and with it the class; the same of its phase, and of what it does."""
     is_guessed = trace is not None and trace.pods[pod.number].is_guessed
     found: dict[str, Any] = {"qos": None, "manifest_is_unknown": True} if is_guessed else {}
     is_unknown = provenance.phase_words(trace, pod) == provenance.UNKNOWN_PHASE
-    return found | ({"phase": None, "ended_as": None, "phase_is_unknown": True} if is_unknown else {})
+    found |= {"phase": None, "ended_as": None, "phase_is_unknown": True} if is_unknown else {}
+    doubted = trace.reasons.doubted.get(pod.number) if trace is not None else None
+    return found | ({"state_is_guessed_at": doubted} if doubted is not None else {})
 
 
 def deletion_fields(pod: reports.Pod, trace: traces.Trace | None) -> dict[str, Any]:

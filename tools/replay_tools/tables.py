@@ -22,7 +22,7 @@ TABLES = {
                     "evicted_at INTEGER, evicted_signal TEXT, evicted_kind TEXT, worst TEXT, worst_at INTEGER, "
                     "worst_words TEXT, rank INTEGER, deleted_at INTEGER, deleted_by TEXT, "
                     "deletion_grace_seconds INTEGER, manifest_is_unknown INTEGER, "
-                    "phase_is_unknown INTEGER"),
+                    "phase_is_unknown INTEGER, state_is_guessed_at INTEGER"),
     "container": ("containers", "node TEXT, pod TEXT, pod_number INTEGER, name TEXT, state TEXT, code INTEGER, "
                                 "restarts INTEGER, ready INTEGER, started INTEGER, starts INTEGER, deaths INTEGER, "
                                 "kills INTEGER, backoffs INTEGER, came_again INTEGER"),

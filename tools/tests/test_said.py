@@ -146,3 +146,21 @@ def test_exits_that_no_line_has():
         expect("json: an exit that no line has", (died["code"], died["moment_is_known"]), (None, False))
         [pod] = data_in(run([f"{TOOLS}/page", f"{folder}/trace"], report)[1])["podList"]
         expect("page: an exit that no line has", list(pod["more"].values()), [" (by then: no line has the exit)"])
+
+
+def test_what_is_guessed_after_a_gap():
+    """A pod that no line after a gap names is not shown as one that is known to run."""
+    text, report = read(f"{EXAMPLE}.trace").splitlines(keepends=True), read(f"{EXAMPLE}.report")
+    text[-1] = text[-1].replace('"CONTAINER_RUNNING"', '"CONTAINER_RUNNING","guessed":["state"]')
+    wanted = "what it did at 26 is guessed, as before a gap: no line after it has the pod"
+    with tempfile.TemporaryDirectory() as folder:
+        with open(f"{folder}/trace", "w", encoding="utf-8") as file:
+            file.writelines(text)
+        for tool in ("story", "why"):
+            told = run([f"{TOOLS}/{tool}", "shop/web-0", "--trace", f"{folder}/trace"], report)[1]
+            expect(f"{tool}: what is guessed after a gap", wanted in told.splitlines(), True)
+        lines = run([f"{TOOLS}/json", "--trace", f"{folder}/trace"], report)[1].splitlines()
+        [pod] = [each for each in map(json.loads, lines) if each["record"] == "pod"]
+        expect("json: what is guessed after a gap", pod["state_is_guessed_at"], 26)
+        [pod] = data_in(run([f"{TOOLS}/page", f"{folder}/trace"], report)[1])["podList"]
+        expect("page: what is guessed after a gap", pod["doubted"], 26)

@@ -320,6 +320,8 @@ def pod_of(report: reports.Report, trace: traces.Trace | None, span: Span, pod: 
         of_pod = ticks.of(trace, ours)
         if ours.is_guessed:
             found["guessed"] = True
+        if pod.number in trace.reasons.doubted:
+            found["doubted"] = span.of(trace.reasons.doubted[pod.number])
         if any(one.restarting.is_own for one in ours.containers):
             found["policies"] = [one.restarting.policy_words() for one in ours.containers]
         found |= {"policy": ours.policy, "priority": ours.priority,
