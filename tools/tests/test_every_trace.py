@@ -2,28 +2,24 @@
 are called in this process, since there are a thousand of them."""
 
 import glob
-import json
 import lzma
 import os
 
 import cases
-from checks import HERE, TOP, expect, read, replayed, run
+from checks import HERE, TOP, expect, replayed
 
 from replay_tools import (amounts, asking, endings, kubelet as kubelets, overview, picture, records, report as reports,
                           story_text, traces, why as why_ticks)
 from replay_tools.clock import Clock
 from replay_tools.joined import known
 from replay_tools.page import build
-from replay_tools.record.standing import Standing
 
 load_tests = cases.loaded(__name__)
 
 CASES = f"{TOP}/crates/case_runner/data/traces"
 # a trace that begins with the eviction of the trace before it, among them
 RECORDINGS = (f"{HERE}/recordings/*/trace", f"{TOP}/examples/recorded/*.trace", f"{HERE}/whys/*/trace",
-              f"{HERE}/summaries/trace", f"{TOP}/examples/*.trace", f"{TOP}/examples/extended/*.trace")
-# recordings of which the answers are kept alone
-CAPTURED = "real_kills", "real_evictions", "real_soft_run"
+              f"{HERE}/summaries/trace")
 # longer ones take the tools minutes; the traces of a family are alike
 MOST_BYTES = 1 << 18
 CUTS = 6
@@ -86,59 +82,19 @@ def test_every_recording():
     expect("each tool tells each recording", (count > 20, faults[:5]), (True, []))
 
 
-def ticks_in(lines):
-    return [place for place, line in enumerate(lines) if line.startswith(b'{"kind":"tick"')]
-
-
-def fault_of_piece(text, name):
-    """The exception of a tool over a piece of a trace, for which the program is asked."""
-    status, report, said = replayed(text.decode())
-    return fault_of(text, report, name) if status == 0 else f"{name}: {said}"
-
-
 def test_every_recording_cut():
     """Each recording up to some of its ticks, as a recorder that is killed leaves it."""
     faults, count = [], 0
     for path in sorted(path for pattern in RECORDINGS for path in glob.glob(pattern)):
         text = text_of(path)
         lines = text.splitlines(keepends=True)
-        ticks = ticks_in(lines)
+        ticks = [place for place, line in enumerate(lines) if line.startswith(b'{"kind":"tick"')]
         if len(text) > MOST_BYTES or not ticks:
             continue
         for place in ticks[:: max(1, len(ticks) // CUTS)]:
-            count += 1
-            faults.append(fault_of_piece(b"".join(lines[: place + 1]),
-                                         f"{os.path.relpath(path, TOP)} up to line {place + 1}"))
-    expect("each tool tells each recording that is cut", (count > 50, list(filter(None, faults))[:5]), (True, []))
-
-
-def begun_after(lines, place):
-    """The lines of the trace that a recorder begins after a line of another one, as at a rotation."""
-    standing = Standing()
-    for line in lines[: place + 1]:
-        standing.take(json.loads(line))
-    follows = {"trace": "before.trace.gz", "until": standing.at, "at": standing.at}
-    return [*(f"{line}\n".encode() for line in standing.beginning(standing.at, follows)), *lines[place + 1 :]]
-
-
-def recorded_again(name):
-    """The trace of a recording of which the answers are kept."""
-    words = read(f"{HERE}/recordings/{name}/words").split()
-    return run([f"{HERE}/commands/played_record", *words], RUN="/nonexistent", RECORDING=f"{HERE}/recordings/{name}",
-               PATH=f"{HERE}/commands:{os.environ['PATH']}")[1].encode()
-
-
-def test_every_recording_rotated():
-    """Each recording in pieces, each of which begins as a recorder begins a trace after another."""
-    recorded = {os.path.relpath(path, TOP): text_of(path) for path in glob.glob(f"{HERE}/recordings/*/trace")}
-    faults, count = [], 0
-    for name, text in {**recorded, **{name: recorded_again(name) for name in CAPTURED}}.items():
-        lines = text.splitlines(keepends=True)
-        ticks = ticks_in(lines)
-        ends = ticks[:: max(1, len(ticks) // CUTS)][1:]
-        for begin, end in zip(ends, [*ends[1:], len(lines) - 1]):
-            piece = b"".join(begun_after(lines[: end + 1], begin))
-            if len(piece) <= MOST_BYTES:
+            cut = b"".join(lines[: place + 1])
+            status, report, _ = replayed(cut.decode())
+            if status == 0:
                 count += 1
-                faults.append(fault_of_piece(piece, f"{name} from line {begin + 2} to line {end + 1}"))
-    expect("each tool tells each recording that is rotated", (count > 50, list(filter(None, faults))[:5]), (True, []))
+                faults.append(fault_of(cut, report, f"{os.path.relpath(path, TOP)} up to line {place + 1}"))
+    expect("each tool tells each recording that is cut", (count > 50, list(filter(None, faults))[:5]), (True, []))
