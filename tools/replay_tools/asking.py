@@ -157,7 +157,8 @@ def why(given_to: Given, trace: traces.Trace, pods: list[reports.Pod], show: Cal
         line = worst_line(given_to, pod, show, kubelet) + "\n" if with_worst else ""
         if with_worst:
             # a story has them in its own head
-            above = [*provenance.head_lines(trace, show), *provenance.manifest_lines(trace.pods[pod.number])]
+            above = [*provenance.head_lines(trace, show), *provenance.manifest_lines(trace.pods[pod.number]),
+                     *provenance.doubt_lines(trace, pod, show)]
             line = "".join(f"{each}\n" for each in above) + line
         return f"why {pod.key} on {report.node}{reports.number_words(report, pod)}\n{line}\n"
 

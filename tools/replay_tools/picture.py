@@ -5,8 +5,8 @@ from __future__ import annotations
 from html import escape
 from typing import TYPE_CHECKING
 
-from replay_tools import (clock as clocks, entry, kubelet as kubelets, lanes as made, reasons, report as reports,
-                          telling)
+from replay_tools import (clock as clocks, entry, kubelet as kubelets, lanes as made, provenance, reasons,
+                          report as reports, telling)
 
 if TYPE_CHECKING:
     from replay_tools import traces
@@ -204,6 +204,7 @@ def container_lane(picture: Picture, lane: made.Lane, trace: traces.Trace | None
             continue
         for event in run:
             order_mark(picture, event, y, trace)
+            kill_text(picture, event, lane.states, y)
 
 
 def said_marks(picture: Picture, said: list[Said], y: float) -> None:
@@ -296,9 +297,19 @@ def order_mark(picture: Picture, event: reports.Event, y: float, trace: traces.T
         picture.dot(x, y + BAR / 2, f"{name}: restart of attempt {event.rest[0]} at {picture.moment(event.at)}")
 
 
-def ended_words(picture: Picture, pod: reports.Pod, kubelet: kubelets.Kubelet | None) -> str:
+def kill_text(picture: Picture, event: reports.Event, states: list[made.State], y: float) -> None:
+    """The probe of a kill order, to the left of its mark where there is room for it in the bar of the instance."""
+    begin = next((picture.x(picture.first if state.since is None else state.since) for state in states
+                  if event.word == "kill" and state.died is None and str(state.attempt) == event.rest[0]), None)
+    if begin is not None and 16 + 0.8 * width_of(event.rest[1]) <= picture.x(event.at) - begin:
+        picture.parts.append(f'<text x="{picture.x(event.at) - 7:.1f}" y="{y + BAR - 3:.1f}" text-anchor="end" '
+                             f'style="font-size:10px;fill:#ffffff">{event.rest[1]}</text>')
+
+
+def ended_words(picture: Picture, pod: reports.Pod, kubelet: kubelets.Kubelet | None,
+                trace: traces.Trace | None) -> str:
     """What became of a pod: first what the kubelet did."""
-    end, fact = reports.end_of(pod), kubelet and kubelet.fact(pod.number)
+    end, fact = provenance.end_of(trace, pod), kubelet and kubelet.fact(pod.number)
     ended = f"{end[1]} at {picture.moment(end[0])}" if end else pod.phase
     if kubelet is not None and not kubelet.names and end and end[1] == "Evicted":
         ended += " by the rules"
@@ -321,10 +332,12 @@ def pod_lanes(picture: Picture, report: reports.Report, pod: reports.Pod, kubele
               trace: traces.Trace | None, y: float) -> float:
     """A pod's heading, its strip and its containers; gives the y below them."""
     end, until, lanes = reports.end_of(pod), reports.end_of_spans(pod), made.lanes_of(pod, trace)
-    ended = ended_words(picture, pod, kubelet) + deletion_words(picture, pod, trace) + waiting_words(pod, trace)
+    ended = ended_words(picture, pod, kubelet, trace) + deletion_words(picture, pod, trace) + waiting_words(pod, trace)
     ended += f", gone before {picture.moment(pod.left)}" if pod.left is not None else ""
     named = pod.key + reports.number_words(report, pod)
-    picture.text(14, y + 13, f"{short(named, 800)}: {ended}", "pod", title=f"{named}: {pod.phase}, {pod.qos}")
+    classed = provenance.class_words(trace.pods[pod.number] if trace else None, pod.qos)
+    picture.text(14, y + 13, f"{short(named, 800)}: {ended}", "pod",
+                 title=f"{named}: {provenance.phase_words(trace, pod)}, {classed}")
     y += HEAD
     label(picture, y + STRIP + 1, "Ready", "small")
     for span in lanes.ready:

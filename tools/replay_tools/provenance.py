@@ -6,10 +6,10 @@ from __future__ import annotations
 from collections.abc import Callable
 from typing import TYPE_CHECKING
 
-from replay_tools import entry
+from replay_tools import entry, report as reports
 
 if TYPE_CHECKING:
-    from replay_tools import report as reports, traces
+    from replay_tools import traces
 
 UNKNOWN_MANIFEST = "its manifest is unknown"
 UNKNOWN_CLASS = "class unknown"
@@ -32,10 +32,24 @@ def phase_words(trace: traces.Trace | None, pod: reports.Pod) -> str:
     return UNKNOWN_PHASE if is_unknown and pod.phase in ("Succeeded", "Failed") and pod.reason == "-" else pod.phase
 
 
+def end_of(trace: traces.Trace | None, pod: reports.Pod) -> tuple[int, str] | None:
+    """The moment at which a pod ended, and as what, which may be unknown; None where it did not."""
+    end = reports.end_of(pod)
+    return None if end is None else (end[0], phase_words(trace, pod) if end[1] == pod.phase else end[1])
+
+
 def manifest_lines(pod: traces.Pod | None) -> list[str]:
     if pod is None or not pod.is_guessed:
         return []
     return [f"{UNKNOWN_MANIFEST}: limits, probes, class and restart policy are unknown too"]
+
+
+def doubt_lines(trace: traces.Trace | None, pod: reports.Pod, show: Callable[[int], str]) -> list[str]:
+    """That after a gap nothing shows what a pod's containers do."""
+    at = None if trace is None else trace.reasons.doubted.get(pod.number)
+    if at is None:
+        return []
+    return [f"what it did at {show(at)} is guessed, as before a gap: no line after it has the pod"]
 
 
 def head_lines(trace: traces.Trace | None, show: Callable[[int], str]) -> list[str]:

@@ -22,10 +22,12 @@ NEVER_RAN = ("StartError", "ContainerCannotRun", "CreateContainerError", "RunCon
 # entries and listings without one of these members have no reason; most have none of them
 OF_ENTRY = frozenset(("guessed", "readinessGates", "readyTurns", "waiting"))
 OF_LISTING = frozenset(("ended", "guessed", "reason"))
-# in the array of members that were guessed, as of a log that has no code of an exit, and of a start or an exit only the
-# moment of the kubelet's next poll
-CODE, MOMENT, PHASE = "exitCode", "moment", "phase"
-WITHIN = " (within a second)"
+# in the array of members that were guessed, as of a log that has no code of an exit, of a start or an exit only the
+# moment of the kubelet's next poll, and of an exit nothing at all
+CODE, MOMENT, EXIT, PHASE = "exitCode", "moment", "exit", "phase"
+# and of a container after a gap what it does, since no line there names its pod
+STATE = "state"
+WITHIN, BY_THEN = " (within a second)", " (by then: no line has the exit)"
 CLOSED = "readiness gate", None
 
 
@@ -79,8 +81,12 @@ class Reasons:
         """how the condition Ready has turned in the kubelet's status: its status by the moment, by the pod's number"""
         self.unknown_phases: set[int] = set()
         """the numbers of pods that have ended, and of which no code shows whether they succeeded"""
+        self.doubted: dict[int, int] = {}
+        """the last moments after gaps at which it is guessed what a pod's containers do, by the pod's number"""
         self.looked: set[tuple[str, int, str, int]] = set()
         """the starts and deaths that are known by a poll: the event's word, the pod's number, container and attempt"""
+        self.unseen: set[tuple[int, str, int]] = set()
+        """the deaths that nothing shows but what came after them: the pod's number, container and attempt"""
 
     def take(self, at: int, entries: dict[str, dict[str, Any]], others: dict[str, dict[str, Any]],
              present: dict[str, traces.Pod]) -> None:
@@ -92,6 +98,8 @@ class Reasons:
             for each in listed if isinstance(listed, list) else ():
                 if isinstance(each, dict) and not OF_LISTING.isdisjoint(each):
                     self.take_listing(present[key].number, each)
+                    if is_guessed_in(each, STATE):
+                        self.doubted[present[key].number] = at
         for key, found in others.items():
             if not OF_ENTRY.isdisjoint(found):
                 number = present[key].number
@@ -140,7 +148,10 @@ class Reasons:
             self.looked.add(("died" if "exitCode" in listed else "started", number, name, attempt))
 
     def within_words(self, event: reports.Event) -> str:
-        """That a start or a death is known by the kubelet's next poll alone; nothing of others."""
+        """That a start or a death is known by the kubelet's next poll alone, or a death by what came after it; nothing
+        of others."""
+        if event.word == "died" and (event.number, event.container, int(event.rest[0])) in self.unseen:
+            return BY_THEN
         is_looked = event.word in ("started", "died") and (
             event.word, event.number, event.container, int(event.rest[0])) in self.looked
         return WITHIN if is_looked else ""
@@ -152,6 +163,8 @@ class Reasons:
         attempt = outside.whole(said.get("attempt", 0), 0, outside.MOST_OF_CODE)
         if code is None or attempt is None:
             return
+        if is_guessed_in(said, EXIT):
+            self.unseen.add((number, name, attempt))
         end = self.ends.setdefault((number, name, attempt), End(code))
         end.reason = reason or end.reason
         end.message = end.message or text_at(said, "message")
@@ -249,6 +262,12 @@ def cause_words(event: reports.Event, code: int, trace: traces.Trace | None, is_
     if is_known(event, trace):
         return "killed, or it exited so; the trace has no reason"
     return "it was no longer listed, its own code is not known"
+
+
+def is_phase_unknown(event: reports.Event, trace: traces.Trace | None) -> bool:
+    """Whether an event is the end of a pod of which no known code shows whether it succeeded."""
+    return (event.word == "phase" and event.rest[0] in ("Succeeded", "Failed") and trace is not None
+            and event.number in trace.reasons.unknown_phases)
 
 
 def short_words(event: reports.Event, trace: traces.Trace | None) -> str:

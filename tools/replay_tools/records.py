@@ -26,7 +26,8 @@ def records_of(report: reports.Report, kubelet: kubelets.Kubelet | None = None, 
     yield node_record(report, span[0] if span else first_moment(report), last, known) | (
         {} if kubelet is None else {"tells_kubelet": True}) | of_trace(trace)
     for number, event in enumerate(report.events):
-        yield event_record(report, number, event) | reason_fields(event, trace) | restart_fields(report, event, trace)
+        yield (event_record(report, number, event) | moment_fields(event, trace) | reason_fields(event, trace)
+               | restart_fields(report, event, trace))
     for number, border in enumerate(report.borders):
         yield border_record(report, number, border)
     ranked = summing.summaries(report, trace, kubelet, last, known)
@@ -105,8 +106,16 @@ def event_record(report: reports.Report, number: int, event: reports.Event) -> d
     return record | kind.values(event.rest)
 
 
+def moment_fields(event: reports.Event, trace: traces.Trace | None) -> dict[str, Any]:
+    """That the moment of a start or a death is guessed, as a trace marks it."""
+    return {"moment_is_known": False} if trace is not None and trace.reasons.within_words(event) else {}
+
+
 def reason_fields(event: reports.Event, trace: traces.Trace | None) -> dict[str, Any]:
-    """Of a death why, as a trace shows it: whether the code is the instance's own, the reason, the message."""
+    """Of a death why, as a trace shows it: whether the code is the instance's own, the reason, the message; and of the
+    end of a pod that its phase is unknown."""
+    if reasons.is_phase_unknown(event, trace):
+        return {"phase_is_unknown": True}
     if event.word != "died" or trace is None:
         return {}
     end = trace.reasons.end_of(event)
@@ -144,11 +153,13 @@ def pod_record(report: reports.Report, pod: reports.Pod, rank: int, summary: sum
 
 
 def manifest_fields(pod: reports.Pod, trace: traces.Trace | None) -> dict[str, Any]:
-    """Where its manifest is unknown, that it is, and with it the class; the same of its phase."""
+    """Where its manifest is unknown, that it is, and with it the class; the same of its phase, and of what it does."""
     is_guessed = trace is not None and trace.pods[pod.number].is_guessed
     found: dict[str, Any] = {"qos": None, "manifest_is_unknown": True} if is_guessed else {}
     is_unknown = provenance.phase_words(trace, pod) == provenance.UNKNOWN_PHASE
-    return found | ({"phase": None, "phase_is_unknown": True} if is_unknown else {})
+    found |= {"phase": None, "ended_as": None, "phase_is_unknown": True} if is_unknown else {}
+    doubted = trace.reasons.doubted.get(pod.number) if trace is not None else None
+    return found | ({"state_is_guessed_at": doubted} if doubted is not None else {})
 
 
 def deletion_fields(pod: reports.Pod, trace: traces.Trace | None) -> dict[str, Any]:

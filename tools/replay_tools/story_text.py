@@ -151,7 +151,7 @@ def story(given: asking.Given, pod: reports.Pod, show: Show, kubelet: kubelets.K
     ours = trace.pods[pod.number] if trace else None
     containers = [[found.name, found.state, reasons.code_words(found.code, reasons.last_end(pod, found, trace)),
                    found.restarts, found.ready, found.started] for found in pod.containers]
-    ended = reports.end_of(pod)
+    ended = provenance.end_of(trace, pod)
     reason = "" if pod.reason == "-" else f" ({pod.reason})"
     is_evicted = kubelet is not None and (pod.reason == "Evicted" or kubelet.fact(pod.number) is not None)
     names = kubelet is not None and kubelet.names
@@ -160,7 +160,8 @@ def story(given: asking.Given, pod: reports.Pod, show: Show, kubelet: kubelets.K
     lines = [f"{pod.key} on {report.node}{reports.number_words(report, pod)}: {by_rules}"
              f"{provenance.phase_words(trace, pod)}{reason}, "
              f"{provenance.class_words(ours, pod.qos)}", *provenance.head_lines(trace, show),
-             *provenance.manifest_lines(ours), *kubelets.lines_of(kubelet, pod.number, show),
+             *provenance.manifest_lines(ours), *provenance.doubt_lines(trace, pod, show),
+             *kubelets.lines_of(kubelet, pod.number, show),
              *(node_lines(trace, report, [pod], show, given.since) if trace else []),
              asking.worst_line(given, pod, show, kubelet),
              f"first tick {show(reports.first_tick(pod))}"

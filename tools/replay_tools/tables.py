@@ -22,7 +22,7 @@ TABLES = {
                     "evicted_at INTEGER, evicted_signal TEXT, evicted_kind TEXT, worst TEXT, worst_at INTEGER, "
                     "worst_words TEXT, rank INTEGER, deleted_at INTEGER, deleted_by TEXT, "
                     "deletion_grace_seconds INTEGER, manifest_is_unknown INTEGER, "
-                    "phase_is_unknown INTEGER"),
+                    "phase_is_unknown INTEGER, state_is_guessed_at INTEGER"),
     "container": ("containers", "node TEXT, pod TEXT, pod_number INTEGER, name TEXT, state TEXT, code INTEGER, "
                                 "restarts INTEGER, ready INTEGER, started INTEGER, starts INTEGER, deaths INTEGER, "
                                 "kills INTEGER, backoffs INTEGER, came_again INTEGER"),
@@ -30,7 +30,8 @@ TABLES = {
                         "container TEXT, attempt INTEGER, code INTEGER, code_is_known INTEGER, reason TEXT, "
                         "message TEXT, probe TEXT, delay_seconds INTEGER, "
                         "phase TEXT, signal TEXT, kind TEXT, active INTEGER, condition TEXT, value INTEGER, "
-                        "grace_seconds INTEGER, counted_anew_since INTEGER, so_before INTEGER, restart_words TEXT"),
+                        "grace_seconds INTEGER, counted_anew_since INTEGER, so_before INTEGER, restart_words TEXT, "
+                        "moment_is_known INTEGER, phase_is_unknown INTEGER"),
     "condition": ("conditions", "node TEXT, pod TEXT, pod_number INTEGER, condition TEXT, value INTEGER, "
                                 "since INTEGER, reason TEXT"),
     "eviction": ("evictions", "node TEXT, number INTEGER, at INTEGER, pod TEXT, pod_number INTEGER, signal TEXT, "

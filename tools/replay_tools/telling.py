@@ -75,8 +75,7 @@ def event_words(event: reports.Event, is_beside: bool = False, trace: traces.Tra
     why = reasons.cause_words(event, int(event.rest[1]), trace, is_whole) if event.word == "died" else ""
     kind = events.kinds()[event.word]
     told = kind.told(event.rest, why, is_beside, reasons.is_guessed(event, trace))
-    if event.word == "phase" and event.rest[0] in ("Succeeded", "Failed") and trace is not None \
-            and event.number in trace.reasons.unknown_phases:
+    if reasons.is_phase_unknown(event, trace):
         told = "phase Succeeded or Failed: no known code shows which"
     return kind.attempt(event.rest), f"{told}{more_words(event, trace)}"
 

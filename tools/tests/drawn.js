@@ -1,5 +1,6 @@
 // Runs the scripts of a page of tools/page without a browser, with as much of a document as they need, opens the story
-// of a pod, and writes as JSON what its charts of memory and processor time draw and show. test_page.py runs it by node.
+// of a pod, and writes as JSON its sentences, and what its charts of memory and processor time draw and show. test_page.py
+// runs it by node.
 //
 // usage: node drawn.js PAGE.html POD light|dark MOMENT ..
 'use strict';
@@ -62,7 +63,8 @@ const {data, openStory, usedCharts} = context.shown;
 openStory(data.podList.find((pod) => pod.key === key));
 while (frames.length) frames.shift()();
 const said = byId('panel').children.filter((one) => one.className === 'quiet').map((one) => one.textContent);
-console.log(JSON.stringify({said: usedCharts.length ? said.slice(1) : said, colours: Object.fromEntries(
+const words = byId('panel').children.filter((one) => one.kind === 'p').map((one) => one.textContent);
+console.log(JSON.stringify({words, said: usedCharts.length ? said.slice(1) : said, colours: Object.fromEntries(
   ['signal', 'hard', 'soft', 'shade'].map((name) => [name, style.getPropertyValue(`--${name}`)])),
 charts: usedCharts.map((chart) => ({drawn: chart.canvas.pen.drawn,
   tips: moments.map((at) => chart.tip(Number(at) - data.first))}))}));

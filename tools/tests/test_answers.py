@@ -114,9 +114,13 @@ def test_the_runtime_alone():
     for name in ("crictl", "recorded"):
         os.symlink(f"{HERE}/commands/{name}", f"{path}/{name}")
     words, settings = ["--node", "worker-3", "--kubelet", "none"], {**place.settings, "PATH": path}
-    status, trace, said = run([f"{TOOLS}/record", *words, "--for", "2"], **settings)
+    metrics = f"{path}/metrics.prom"
+    status, trace, said = run([f"{TOOLS}/record", *words, "--for", "2", "--metrics", metrics], **settings)
     expect("the runtime alone", (status, kinds(trace)[:3], said), (0, ["node", "pod", "tick"], ""))
     expect("the runtime alone: what is not known", ("recordsKubelet" in trace, '"signals":{}' in trace), (False, True))
+    counted = [name for name in ("restarts_total", "ready", "pressure", "available")
+               if f"\nkubelet_recorder_{name}{{" in read(metrics)]
+    expect("the runtime alone: no metric has what nobody sampled", counted, ["restarts_total", "ready"])
     status, told, said = run([f"{TOOLS}/record", "--check", *words], **settings)
     expect("the runtime alone: --check", (status, [line.split(":")[0] for line in told.splitlines()], said),
            (0, ["works    crictl ps", "works    crictl inspect"], ""))

@@ -247,7 +247,7 @@ def test_import_of_an_exit_in_a_hole():
         0, 0, {"since": 1772359235, "until": 1772359550}, 1772359235))
     [web] = [entry["containers"] for entry in tick["pods"] if entry["pod"] == "shop/web"]
     expect("import of an exit in a hole: the exit", [(each["attempt"], each["ended"]) for each in web], [
-        (2, {"attempt": 1, "exitCode": 137, "guessed": ["moment", "exitCode"]})])
+        (2, {"attempt": 1, "exitCode": 137, "guessed": ["exitCode", "exit"]})])
     at = text.index("I0301 10:00:50")
     other = text[at:].replace("11111111-", "99999999-").replace("aaaa0", "cccc0")
     status, trace, _ = imported(given=later(text[:at] + other, "I0301 10:00:50", 300))

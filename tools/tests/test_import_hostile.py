@@ -65,7 +65,8 @@ def test_import_of_hostile_manifests():
     """Aliases that multiply or are a circle, numbers and nests that are long are one line each."""
     folder = tempfile.mkdtemp()
     for name, text, words in (
-            ("aliases", MULTIPLIED, "its aliases multiply"), ("circle", CIRCLE, "or are a circle"),
+            ("aliases", MULTIPLIED, "its aliases multiply"),
+            ("few aliases", MULTIPLIED.partition("x6:")[0], "its aliases multiply"), ("circle", CIRCLE, "or are a circle"),
             ("digits", f"{POD}x: {'9' * 5000}\n", "has a number that is too long"),
             ("sexagesimal", f"{POD}x: 1{':1' * 5000}\n", "has a number that is too long"),
             ("levels", f"{POD}x: {'[' * 1000}{']' * 1000}\n", "nests too deep"),

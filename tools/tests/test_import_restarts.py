@@ -69,6 +69,31 @@ def test_import_of_pods_that_turn_unready_by_a_restart():
         expect(f"import of unready pods, {name}: no probe failed", failures, [])
 
 
+def test_import_of_codes_by_version():
+    """What is printed of codes that a journal lacks is of the kubelet that wrote it."""
+    for is_printed, written in ((True, "up to 1.20 writes codes from -v=3 on"),
+                                (False, "from 1.21 on writes codes from -v=2 on")):
+        journal = Journal(is_printed).loop(0, "ADD").look(1, "Started", "a").look(1.001, "Started", "5")
+        said = imported(journal.look(20, "Died", "a").loop(60, "UPDATE").text(), [pod()])[2]
+        expect(f"import of codes: {written}", [line for line in said.splitlines() if "without a code" in line],
+               [f"import: 1 of 1 exit without a code, which is guessed: a kubelet {written}"])
+
+
+def test_import_of_two_restarts():
+    """A pod that no line names after either is one pod."""
+    journal = Journal(True).loop(0, "ADD").look(1, "Started", "a").look(1.001, "Started", "5")
+    other = Journal(True, "calm", UID.replace("1", "7")).loop(0, "ADD").look(1, "Started", "b")
+    other.look(1.001, "Started", "6")
+    for process, at in ((10, 60), (11, 900)):
+        journal.process = process
+        journal.say(at, "Started kubelet").loop(at + 1, "ADD").loop(at + 800, "UPDATE")
+    status, records, said = imported(journal.text(other), [pod(), pod("calm", UID.replace("1", "7"))])
+    gaps = [tick for tick in ticks_of(records) if "gap" in tick]
+    told = [line for line in said.splitlines() if "after a gap" in line]
+    expect("import of two restarts", (status, len(gaps), told), (
+        0, 2, ["import: 1 pod that no line after a gap names (shop/calm): as before it"]))
+
+
 def test_import_of_restarts_in_a_folder():
     """Of traces one after the other the one that begins with the restart has its moment, by the clock of then."""
     with tempfile.TemporaryDirectory() as folder:

@@ -45,7 +45,7 @@ def test_import_of_a_wait_of_what_was_taken_to_run():
     status, records, _ = imported(journal.text(), [pod()])
     last = entries_of(records)[-1][1]
     expect("import of a wait of what was taken to run", (status, is_accepted(records), states_of(records)[-1]), (
-        0, True, (60, "app", 0, "EXITED", 137, ("moment", "exitCode"))))
+        0, True, (60, "app", 0, "EXITED", 137, ("exitCode", "exit"))))
     expect("import of a wait of what was taken to run: it waits", [each["reason"] for each in last["waiting"]], [
         "CrashLoopBackOff"])
 
@@ -67,10 +67,10 @@ def test_import_of_exits_that_no_line_has():
     expect("import of exits that no line has", (status, is_accepted(records)), (0, True))
     expect("import of exits that no line has: what is listed", states_of(records), [
         (2, "app", 0, "RUNNING", None, ()), (41, "app", 1, "RUNNING", None, ()),
-        (150, "app", 1, "EXITED", 137, ("exitCode", "moment")), (201, "app", 2, "RUNNING", None, ())])
+        (150, "app", 1, "EXITED", 137, ("exitCode", "exit")), (201, "app", 2, "RUNNING", None, ())])
     ended = [each["ended"] for _, entry in entries_of(records) for each in entry["containers"] if "ended" in each]
     expect("import of exits that no line has: in the tick of the next start", ended[0], {
-        "attempt": 0, "exitCode": 137, "guessed": ["exitCode", "moment"]})
+        "attempt": 0, "exitCode": 137, "guessed": ["exitCode", "exit"]})
     expect("import of exits that no line has: what is said", "2 of 2 exits without a code" in said, True)
 
 
@@ -282,6 +282,24 @@ def test_import_of_gates_and_resources_of_a_pod():
     [spec] = [record["pod"]["spec"] for record in records if record["kind"] == "pod"]
     expect("import of gates and resources of a pod", (status, spec.get("readinessGates"), spec.get("resources")),
            (0, None, {"limits": {"memory": "1Gi"}}))
+
+
+def test_import_of_more_pods_than_a_trace_has():
+    """A trace alone has at most 256 pods; the counts agree with each other."""
+    journals = []
+    for number in range(258):
+        journal = Journal(True, f"web-{number:03}", f"11111111-2222-3333-4444-{number:012}").loop(number, "ADD")
+        for letter in "ab":
+            event = (f'event: &pleg.PodLifecycleEvent{{ID:"{journal.uid}", Type:"ContainerStarted", '
+                     f'Data:"{letter}{number:063x}"}}')
+            journal.say(number + 1, f'SyncLoop (PLEG): "{journal.placed}", {event}')
+        journals.append(journal)
+    status, records, said = imported(journals[0].text(*journals[1:]))
+    counts = [line.rpartition(": ")[2] for line in said.splitlines() if "starts and exits" in line]
+    expect("import of more pods than a trace has", (status, sum(each["kind"] == "pod" for each in records), counts, [
+        line for line in said.splitlines() if "left out" in line]), (0, 256, ["256 pods; starts and exits 516"], [
+            "import: 2 pods left out (shop/web-256, shop/web-257): a trace alone has at most 256, and with --into each "
+            "has 256 at once"]))
 
 
 def test_import_of_many_instances():

@@ -155,6 +155,8 @@ def test_unknown_manifests():
            [(None, True), ("BestEffort", None)])
     expect("page", [(one["qos"], one.get("guessed")) for one in told.data()["podList"]],
            [("class unknown", True), ("BestEffort", None)])
+    expect("timeline", [name in told.by("timeline") for name in ("shop/lost: Running, class unknown",
+                                                                  "shop/known: Running, BestEffort")], [True, True])
 
 
 def test_an_unknown_phase():
@@ -168,8 +170,16 @@ def test_an_unknown_phase():
     expect("no event says that it failed", (re.findall(r"phase .*", story)[-1], "phase Failed" in story),
            ("phase Succeeded or Failed: no known code shows which", False))
     expect("the list", "Succeeded or Failed" in told.by("story"), True)
-    expect("json", [(record["phase"], record.get("phase_is_unknown")) for record in told.records("pod")],
-           [(None, True)])
+    expect("how it ended", "ended 2026-01-01 00:00:09Z as Succeeded or Failed" in story, True)
+    expect("json", [(record["phase"], record["ended_as"], record.get("phase_is_unknown")) for record in
+                    told.records("pod")], [(None, None, True)])
+    expect("json: the event", [record.get("phase_is_unknown") for record in told.records("event")
+                               if record["event"] == "phase"][-1], True)
+    [page] = told.data()["podList"]
+    words = told.data()["words"].index("phase")
+    expect("page", (page["end"], [event[3] for event in page["events"] if event[2] == words][-1]),
+           ([9, "Succeeded or Failed"], "Succeeded or Failed: no known code shows which"))
+    expect("timeline", "shop/once: Succeeded or Failed at 2026-01-01 00:00:09Z" in told.by("timeline"), True)
 
 
 def test_an_owners_template():

@@ -171,6 +171,24 @@ def drawn_of(path, *words):
     return json.loads(done.stdout)
 
 
+def test_page_says_what_the_kubelet_did():
+    """The page's sentences on an eviction are the story's: what was not seen is not shown as what did not happen."""
+    if shutil.which("node") is None:
+        print("left out: what a page prints of an eviction, since node is missing")
+        return
+    report, trace = read(f"{ENDS}/report"), f"{ENDS}/trace"
+    with tempfile.TemporaryDirectory() as folder:
+        path = f"{folder}/page.html"
+        with open(path, "w", encoding="utf-8") as file:
+            file.write(page_of(report, "--seconds", trace)[1])
+        for pod in ("named", "hog", "late"):
+            told = run([f"{TOOLS}/story", "--seconds", f"shop/{pod}", "--trace", trace, "--without-why"], report)[1]
+            words = [line for line in drawn_of(path, f"shop/{pod}", "light", "0")["words"] if
+                     re.match("the kubelet|the rules", line)]
+            expect(f"the page of {pod}", (words != [], [each for each in words if each not in told.split("\n")]),
+                   (True, []))
+
+
 def test_page_draws_use():
     """Next to the story of a pod, in both themes, the lines of its memory and processor time with request and limit,
     and what a pointer at them shows."""

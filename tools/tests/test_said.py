@@ -100,6 +100,9 @@ def test_picture_of_what_was_said():
               "web: kill order at 15 (liveness) (HTTP 503)"]
     expect("timeline: what was said", [each for each in wanted if each not in titles], [])
     expect("timeline: its legend", ">reported of it<" in picture, True)
+    texts = re.findall(r'<text [^>]*style[^>]*>([^<]*)<', picture)
+    expect("timeline: the probe of a kill is there without a title", "liveness" in texts, True)
+    expect("timeline: it ends with the trace", re.findall(r'class="title">([^<]*)<', picture), ["worker-3, 0 to 26 s"])
     expect("timeline: of nothing said there is nothing", "said" in drawn_of({}, "timeline", "--trace"), False)
 
 
@@ -118,3 +121,46 @@ def test_moments_within_a_second():
                       or "(within a second) (attempt 0); killed" in line]
             expect(f"{tool}: moments within a second", [place for place in marked if place in ("20", "21")][:2],
                    ["20", "21"])
+        lines = run([f"{TOOLS}/json", "--trace", f"{folder}/trace"], read(f"{EXAMPLE}.report"))[1].splitlines()
+        guessed = [(each["event"], each["at"]) for each in map(json.loads, lines)
+                   if each.get("moment_is_known") is False]
+        expect("json: moments within a second", guessed, [("died", 20), ("started", 21)])
+        [pod] = data_in(run([f"{TOOLS}/page", f"{folder}/trace"], read(f"{EXAMPLE}.report"))[1])["podList"]
+        expect("page: moments within a second", list(pod["more"].values()), [" (within a second)"] * 2)
+
+
+def test_exits_that_no_line_has():
+    """An exit that only what came after it shows has happened by its moment, and is not shown as seen there."""
+    text, report = read(f"{EXAMPLE}.trace"), read(f"{EXAMPLE}.report")
+    exited = '"CONTAINER_EXITED","exitCode":137'
+    text = text.replace(exited, f'{exited},"guessed":["exitCode","exit"]')
+    with tempfile.TemporaryDirectory() as folder:
+        with open(f"{folder}/trace", "w", encoding="utf-8") as file:
+            file.write(text)
+        for tool in ("story", "why"):
+            told = run([f"{TOOLS}/{tool}", "shop/web-0", "--trace", f"{folder}/trace"], report)[1]
+            expect(f"{tool}: an exit that no line has", ("died, code unknown (by then: no line has the exit)" in told,
+                                                        "within a second" in told), (True, False))
+        [died] = [each for each in map(json.loads, run([f"{TOOLS}/json", "--trace", f"{folder}/trace"],
+                                                       report)[1].splitlines()) if each.get("event") == "died"]
+        expect("json: an exit that no line has", (died["code"], died["moment_is_known"]), (None, False))
+        [pod] = data_in(run([f"{TOOLS}/page", f"{folder}/trace"], report)[1])["podList"]
+        expect("page: an exit that no line has", list(pod["more"].values()), [" (by then: no line has the exit)"])
+
+
+def test_what_is_guessed_after_a_gap():
+    """A pod that no line after a gap names is not shown as one that is known to run."""
+    text, report = read(f"{EXAMPLE}.trace").splitlines(keepends=True), read(f"{EXAMPLE}.report")
+    text[-1] = text[-1].replace('"CONTAINER_RUNNING"', '"CONTAINER_RUNNING","guessed":["state"]')
+    wanted = "what it did at 26 is guessed, as before a gap: no line after it has the pod"
+    with tempfile.TemporaryDirectory() as folder:
+        with open(f"{folder}/trace", "w", encoding="utf-8") as file:
+            file.writelines(text)
+        for tool in ("story", "why"):
+            told = run([f"{TOOLS}/{tool}", "shop/web-0", "--trace", f"{folder}/trace"], report)[1]
+            expect(f"{tool}: what is guessed after a gap", wanted in told.splitlines(), True)
+        lines = run([f"{TOOLS}/json", "--trace", f"{folder}/trace"], report)[1].splitlines()
+        [pod] = [each for each in map(json.loads, lines) if each["record"] == "pod"]
+        expect("json: what is guessed after a gap", pod["state_is_guessed_at"], 26)
+        [pod] = data_in(run([f"{TOOLS}/page", f"{folder}/trace"], report)[1])["podList"]
+        expect("page: what is guessed after a gap", pod["doubted"], 26)

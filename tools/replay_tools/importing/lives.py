@@ -88,6 +88,8 @@ class Life(Account):
         self.is_deleting = False
         self.is_over = False
         self.is_refused = False
+        # whether it was unknown after a gap what it does
+        self.is_doubted = False
         # from when on something of it is to be placed, as far as lines show by now
         self.due_at = HEARD
         # whether its manifest was made of lines, and the names of containers that lines have only after its own
@@ -314,7 +316,7 @@ class Life(Account):
             return
         code, is_guessed = self.code_of(pod, chain, instance, placing)
         placing.mark(self, name, instance.written, [marks.CODE] if is_guessed else [],
-                     [marks.LOST] if instance.is_lost else [] if instance.finished is not None else [marks.MOMENT])
+                     [marks.EXIT] if instance.is_lost else [] if instance.finished is not None else [marks.MOMENT])
         placing.count("exits without their code" if is_guessed else "exits with their code")
         reason = None if instance.reason is None else reason_of({"reason": instance.reason})
         listing = Listing(instance.written, EXITED, code, reason)

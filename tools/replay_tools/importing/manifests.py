@@ -26,6 +26,8 @@ from .statuses import of_status
 LONGEST_FILE, LONGEST_YAML = 1 << 30, 64 << 20
 # how many values YAML may have once each alias is replaced by its value, and how deep they nest
 MOST_VALUES, DEEPEST = 5_000_000, 100
+# without aliases a document has fewer values than bytes; so many more may come from aliases
+MOST_ALIASED = 100_000
 # a number of so many digits, in YAML's own notations, is none of a manifest
 LONG_NUMBER = re.compile(rb"[0-9_:]{1000}")
 # lists of lists and of owners nest no deeper in what is read
@@ -246,7 +248,7 @@ def yaml_of(data: bytes, path: str, what: str) -> Iterator[Any]:
         raise entry.Fault(f"{what}: '{path}' is neither JSON nor YAML") from None
     if not any(isinstance(each, (dict, list)) for each in found):
         raise entry.Fault(f"{what}: '{path}' has no manifest")
-    plain = Plain()
+    plain = Plain(len(data))
     try:
         yield from (plain.of(each) for each in found)
     except Multiplied:
@@ -261,8 +263,8 @@ class Multiplied(Exception):
 class Plain:
     """Values of YAML as JSON has them: each alias replaced by its value, names and moments as texts."""
 
-    def __init__(self) -> None:
-        self.left = MOST_VALUES
+    def __init__(self, size: int) -> None:
+        self.left = min(MOST_VALUES, size + MOST_ALIASED)
 
     def of(self, value: Any, depth: int = 0) -> Any:
         self.left -= 1

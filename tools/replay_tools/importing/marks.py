@@ -9,8 +9,8 @@ from replay_tools.record.runtime import RUNNING
 
 CODE, MOMENT, CONTAINER, MANIFEST, STATE = "exitCode", "moment", "container", "manifest", "state"
 PHASE = "phase"
-# an exit that no line has, so that neither its code nor its moment is known; it is no word of a trace
-LOST = "lost"
+# an exit that no line has, so that its code is guessed too: it is in the tick that shows that it has happened
+EXIT = "exit"
 
 
 def doubted(listing: dict[str, Any]) -> dict[str, Any]:
@@ -27,10 +27,10 @@ def is_code_known(listing: dict[str, Any]) -> bool:
 
 
 def of_exit(found: tuple[str, ...]) -> tuple[str, ...]:
-    """The marks of an exit: where no line has it, its code and its moment."""
-    if LOST not in found:
+    """The marks of an exit: one that no line has has happened by its moment, and its code is guessed."""
+    if EXIT not in found:
         return found
-    return (*dict.fromkeys([*(mark for mark in found if mark != LOST), CODE, MOMENT]),)
+    return (*dict.fromkeys([*(mark for mark in found if mark not in (MOMENT, EXIT)), CODE, EXIT]),)
 
 
 class ImportedAsides(Asides):
@@ -53,7 +53,7 @@ class ImportedAsides(Asides):
         said = super().of_listing(uid, name, listing)
         marks = self.guessed.get((uid, name, listing.attempt), ())
         marks = of_exit(marks) if listing.exit_code is not None else tuple(
-            mark for mark in marks if mark not in (CODE, LOST))
+            mark for mark in marks if mark not in (CODE, EXIT))
         if not self.is_new((uid, name, "guessed"), (listing.attempt, listing.state)):
             marks = tuple(mark for mark in marks if mark == CODE)
         if marks:
@@ -61,7 +61,7 @@ class ImportedAsides(Asides):
         before = listing.ended
         if before is not None and "ended" in said:
             known = self.guessed.get((uid, name, before.attempt), ())
-            of_end = [mark for mark in of_exit(known) if mark != MOMENT or LOST in known]
+            of_end = [mark for mark in of_exit(known) if mark != MOMENT]
             if of_end:
                 said["ended"]["guessed"] = of_end
         return said

@@ -172,7 +172,9 @@ class Placing:
             for life in lives:
                 if life.arrived is not None and life.arrived < until and life.heard_at < until:
                     self.put_beside(life.key, int(until), marks.STATE, None)
-                    self.count(DOUBTED, life.key)
+                    if not life.is_doubted:
+                        life.is_doubted = True
+                        self.count(DOUBTED, life.key)
 
     # --- what is written ---
 

@@ -92,11 +92,13 @@ def lacking(importer: Importer, kinds: Counter[str], placed: Counter[str], has_s
                     "failure one is inferred")
     elif placed[PROBED] and not kinds["Probed"] and importer.placing.is_silent("readiness"):
         said.append("no results of probes (a kubelet writes failures from -v=1 on): each one is taken to succeed")
+    most = "a trace has at most 256 at once" if importer.placing.is_at_once else (
+        "a trace alone has at most 256, and with --into each has 256 at once")
     for what, means in ((WITHOUT_MANIFEST, "they have the containers that lines name; limits and probes are unknown"),
                         (NAMED_LATE, "the trace has them as unnamed, as it did before"),
                         ("containers that no manifest has", "they are left out"),
                         (UNKNOWN_PHASES, "no line has the code that shows whether they succeeded"),
-                        ("pods left out", "a trace has at most 256 at once")):
+                        ("pods left out", most)):
         if placed[what]:
             called = re.sub(r"^(pod|container)s", r"\1", what) if placed[what] == 1 else what
             said.append(f"{placed[what]} {called} ({names_of(importer, what)}): {means}")

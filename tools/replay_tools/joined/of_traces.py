@@ -131,6 +131,8 @@ def take_reasons(made: traces.Trace, trace: traces.Trace, of: dict[int, int], bo
         # a trace that follows another begins with the turn that was the last, by its own moment
         made.reasons.turns.setdefault(of[number], {}).update(turns)
     made.reasons.unknown_phases |= {of[number] for number in trace.reasons.unknown_phases}
+    made.reasons.doubted |= {of[number]: at for number, at in trace.reasons.doubted.items()}
+    made.reasons.unseen |= {(of[number], name, attempt) for number, name, attempt in trace.reasons.unseen}
     made.reasons.looked |= {(word, of[number], name, attempt) for word, number, name, attempt in trace.reasons.looked}
     for (number, name, attempt), end in trace.reasons.ends.items():
         before = made.reasons.ends.setdefault((of[number], name, attempt), end)

@@ -301,7 +301,7 @@ def around_of(evicted: why.Evicted, span: Span) -> dict[str, Any]:
 def pod_of(report: reports.Report, trace: traces.Trace | None, span: Span, pod: reports.Pod, lanes: made.Lanes,
            ticks: why.Ticks, budget: Budget, words: Words) -> dict[str, Any]:
     """What the page shows of a pod: the report's part, and with a trace its listings and results."""
-    ended, seen = reports.end_of(pod), summing.has_ticks(report, pod, trace)
+    ended, seen = provenance.end_of(trace, pod), summing.has_ticks(report, pod, trace)
     found: dict[str, Any] = {
         "key": pod.key, "phase": provenance.phase_words(trace, pod), "reason": records.none_of(pod.reason),
         "qos": provenance.class_words(trace.pods[pod.number] if trace else None, pod.qos),
@@ -320,6 +320,8 @@ def pod_of(report: reports.Report, trace: traces.Trace | None, span: Span, pod: 
         of_pod = ticks.of(trace, ours)
         if ours.is_guessed:
             found["guessed"] = True
+        if pod.number in trace.reasons.doubted:
+            found["doubted"] = span.of(trace.reasons.doubted[pod.number])
         if any(one.restarting.is_own for one in ours.containers):
             found["policies"] = [one.restarting.policy_words() for one in ours.containers]
         found |= {"policy": ours.policy, "priority": ours.priority,
@@ -399,6 +401,8 @@ def events_of(span: Span, pod: reports.Pod, words: Words) -> list[list[Any]]:
             if reasons.is_guessed(event, words.trace):
                 rest[1] = None
             rest += [of_it[-1].number, of_it[-1].run, *words.cause(event)]
+        elif reasons.is_phase_unknown(event, words.trace):
+            rest[0] = f"{provenance.UNKNOWN_PHASE}: no known code shows which"
         place = names.index(event.container) if event.container in names else -1
         found.append([span.of(event.at) - before, place, words.kinds.index(event.word), *rest])
         before = span.of(event.at)

@@ -182,7 +182,7 @@ function kubeletWords(pod) {
   if (!alone) return [];
   const [at, times] = data.kubelet.named[pod.number] || [pod.eviction.at, 1];
   const verb = data.kubelet.names ? 'name' : 'evict';
-  return [`the kubelet did not evict it; the rules, over the recorded samples, ${verb} it at `
+  return [`the kubelet was not seen to evict it; the rules, over the recorded samples, ${verb} it at `
     + `${moment(at)}${times > 1 ? `, the first of ${times} times` : ''}${causesWords(alone[1])}`];
 }
 

@@ -71,6 +71,8 @@ function openStory(pod) {
     ...kubeletWords(pod).map((words) => element('p', words)), element('p', worstWords(pod)),
     said(`${byRules}${pod.phase}${reasonWords(pod)}, ${pod.qos}, ${first}${ended}${gone}; `
       + `not ready ${seconds(pod.unready)} in all`),
+    ...(pod.doubted === undefined ? [] : [element('p', `what it did at ${moment(pod.doubted)} is guessed, `
+      + 'as before a gap: no line after it has the pod')]),
     element('h2', containersTitle(pod)),
     tableOf(['container', 'state', 'code', 'restarts', 'ready', 'started'], restarts),
     ...usedParts(pod),
