@@ -7,6 +7,7 @@ import tempfile
 from case_files import cases_of, counts_of
 from case_runs import STEPS, Runs, ways
 from common import TOP, Case, read, run, write
+from writers import texts
 
 NODE = '{"kind":"node","name":"n1"}\n'
 REPORT = "node n1 pods=2 ticks=3\ntotals updates=6 events=0 orders=0\n"
@@ -130,6 +131,16 @@ class Files(Case):
                 updates = int(counted.group(1)) if counted else case.trace.count(b'"pod":"')
                 enough += updates >= 4096
         self.assertGreaterEqual(enough, 30)
+
+    def test_each_word_has_a_text(self):
+        """The second compiler's program replays a trace of each member that the page of the extended format adds."""
+        page = read(TOP, "docs/extended.md")
+        headings = re.findall(r"(?m)^## .*", page)
+        fields = re.findall(r"(?m)^\| `(\w+)` \|", page.partition("\n## ")[0])
+        words = {word.split(".")[-1].strip('"') for heading in headings for word in re.findall(r"`([^`]+)`", heading)}
+        known = b" ".join(texts.WORDS).decode()
+        self.assertEqual([word for word in sorted({*words, *fields} - {"--extended", "restartPolicy"})
+                          if word.removeprefix('"kind":"') not in known], [])
 
     def test_ways(self):
         self.assertEqual([words[0] for words in ways("t", "s")], ["run"] * 5 + ["play"] * len(STEPS) + ["check"])

@@ -15,7 +15,9 @@ PROGRAM = os.path.join(TOP, "crates/replay_workloads")
 LONGEST = 65_536
 # the words of the extended format, by the bytes that show each
 WORDS = (b'"judged":false', b'"unsampled":true', b'"deleting":true', b'"failed":"', b'"spared":true',
-         b'"evictionsRecorded":true', b'"evictionPauseSeconds":', b'"evictionPauseUntilGone":true', b'"kind":"gone"')
+         b'"evictionsRecorded":true', b'"evictionPauseSeconds":', b'"evictionPauseUntilGone":true', b'"kind":"gone"',
+         b'"crashLoopBackOff":{"maxContainerRestartPeriod":', b'],"resources":{', b'"readinessGates":', b'"conditions":{',
+         b'"restartPolicyRules":', b'"resized":{')
 TITLE = b"Texts that are replayed as they stand, each behind its name; bench/texts writes this file.\n"
 
 
