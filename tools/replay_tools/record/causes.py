@@ -3,7 +3,6 @@ as its line again. A line of an unknown kind, with other keys or with a value of
 
 from __future__ import annotations
 
-import functools
 import re
 from collections.abc import Callable
 from dataclasses import dataclass, fields
@@ -122,8 +121,17 @@ class Cause:
         return f"because {found.name}{''.join(pairs)}"
 
 
-@functools.cache
+LINES: dict[type[Cause], Line] = {}
+
+
 def line_of(kind: type[Cause]) -> Line:
+    """How the lines of a kind are written. It is worked out once."""
+    if kind not in LINES:
+        LINES[kind] = made_line(kind)
+    return LINES[kind]
+
+
+def made_line(kind: type[Cause]) -> Line:
     hints = get_type_hints(kind, include_extras=True)
     names = [field.name for field in fields(kind)]
     keys, forms = [name.rstrip("_").replace("_", "-") for name in names], [form_of(hints[name]) for name in names]

@@ -89,15 +89,15 @@ def read(lines: Iterable[str]) -> Iterator[Explained]:
 def explained(event: Event, causes: list[Cause], begin: int) -> Explained:
     """An event, whose line has this number, with all its causes. Raises CausesFault if they are not those of its
     word."""
-    if not has_causes(event.word, tuple(map(type, causes))):
-        kinds = " ".join(line_of(type(cause)).name for cause in causes) or "none"
-        raise CausesFault(f"line {begin} of the causes: the event {event.word} has not these causes: {kinds}")
+    kinds = " ".join(line_of(type(cause)).name for cause in causes)
+    if not has_causes(event.word, kinds):
+        raise CausesFault(f"line {begin} of the causes: the event {event.word} has not these causes: {kinds or 'none'}")
     return Explained(event, tuple(causes))
 
 
 @functools.lru_cache(1 << 12)
-def has_causes(word: str, kinds: tuple[type[Cause], ...]) -> bool:
-    return re.fullmatch(OF_EVENTS[word], " ".join(line_of(kind).name for kind in kinds)) is not None
+def has_causes(word: str, kinds: str) -> bool:
+    return re.fullmatch(OF_EVENTS[word], kinds) is not None
 
 
 def event_of(number: int, line: str) -> Event:
