@@ -61,6 +61,7 @@ one_last_exit h cause other is is' =
     (subst (λ (a : ℕ). IsExitCode (listings h) a cause.code) attempt is.code) is'.code in
     let at : cause.at ≡ other.at = same_Some cause.at other.at (IsFirstMoment-unique (listings h)
     (Ends (listings h) other.attempt) (Some cause.at) (Some other.at)
-    (subst (λ (a : ℕ). IsFirstMoment (listings h) (Ends (listings h) a) (Some cause.at)) attempt is.moment) is'.moment) in
+    (subst (λ (a : ℕ). IsFirstMoment (listings h) (Ends (listings h) a) (Some cause.at)) attempt is.moment)
+    is'.moment) in
     ap (λ x. built x cause.at cause.code) attempt ∙ ap (λ x. built other.attempt x cause.code) at
     ∙ ap (λ x. built other.attempt other.at x) code

@@ -9,9 +9,11 @@ use Rattle.histories.specs.rule.TheOne.{IsTheOne}
 use Rattle.state_diff.specs.declared.seen.Seen.{Seen}
 use Rattle.state_diff.specs.declared.seen.CriState.TheVariants.{Running}
 use Rattle.state_diff.specs.declared.differ.Differ.{Differ}
-use Rattle.state_diff.specs.rule.Instances.{Tick, seen_at, IsOf, Listed, ListedAs, Ends, IsNewest, IsExit, IsExitCode, killed_code}
+use Rattle.state_diff.specs.rule.Instances.{Tick, seen_at, IsOf, Listed, ListedAs, Ends, IsNewest, IsExit, IsExitCode}
+use Rattle.state_diff.specs.rule.Instances.{killed_code}
 use Rattle.state_diff.specs.state.Instances.{tick}
-use Rattle.state_diff.specs.state.Differ.{IsNewestSeen, IsOfNewest, IsNewestRun, IsStateOf as IsDifferOf, Accepts as DifferAccepts}
+use Rattle.state_diff.specs.state.Differ.{IsNewestSeen, IsOfNewest, IsNewestRun, IsStateOf as IsDifferOf}
+use Rattle.state_diff.specs.state.Differ.{Accepts as DifferAccepts}
 use Rattle.state_diff.proofs.Events.{now}
 use Rattle.state_diff.proofs.Found.{ended_listed}
 use Rattle.state_diff.proofs.Growth.{grows_ends}
@@ -26,15 +28,18 @@ use Rattle.containers.specs.declared.pod_event_kind.PodEventKind.TheVariants.{Di
 use Rattle.containers.specs.rule.Ticks.{ContainerTick, listings}
 use Rattle.containers.specs.rule.Exits.{AreExitsOf, IsRisingList, AreExits}
 use Rattle.containers.specs.rule.Events.{IsGone, HasDied}
-use Rattle.containers.proofs.ExitLemmas.{AreExitsFor, HasExit, IsGoneNow, OrGone, DiesWith, leaving, gone_more, died_more}
+use Rattle.containers.proofs.ExitLemmas.{AreExitsFor, HasExit, IsGoneNow, OrGone, DiesWith, leaving, gone_more}
+use Rattle.containers.proofs.ExitLemmas.{died_more}
 use Rattle.containers.proofs.ExitLemmas.{exit_cases, exit_back, dies_listed, dies_newest}
-use Rattle.containers.proofs.ListLemmas.{contains_nothing, contains_here, contains_there, contains_old, contains_new, contains_cases}
+use Rattle.containers.proofs.ListLemmas.{contains_nothing, contains_here, contains_there, contains_old, contains_new}
+use Rattle.containers.proofs.ListLemmas.{contains_cases}
 use Rattle.containers.proofs.ListLemmas.{rising_head, rising_tail, rising_end, rising_one}
 use Rattle.containers.proofs.ViewLemmas.{coded}
 use Rattle.containers.proofs.TickLemmas.{listing, onto, onto_at, from, from_at}
 use Rattle.container_causes.specs.declared.exits.Leaving.{Leaving}
 use Rattle.container_causes.specs.rule.Exits.{IsLastExit, IsCounted}
-use Rattle.container_causes.specs.state.Exits.{left, exited, last_exit_of, last_exit_at, attempts_of, exits_of, IsCountKept}
+use Rattle.container_causes.specs.state.Exits.{left, exited, last_exit_of, last_exit_at, attempts_of, exits_of}
+use Rattle.container_causes.specs.state.Exits.{IsCountKept}
 
 pub lengths : (k : List Tick) (attempts : List ℕ) (exits : List Exit) → AreExitsOf k attempts exits
     → length attempts ≡ length exits
@@ -64,7 +69,9 @@ grown_by k l P Q exits later a old new below split =
     (λ b. (
       (λ c. elim ((split b).0 ((new.all b).0 c)) [
         | inl p ↦ contains_old old.attempts a b ((old.all b).1 p)
-        | inr e ↦ let R : ℕ → Type 0 = λ y. Contains (old.attempts ++ a ∷ []) y in subst R e (contains_new old.attempts a)
+        | inr e ↦
+            let R : ℕ → Type 0 = λ y. Contains (old.attempts ++ a ∷ []) y in
+            subst R e (contains_new old.attempts a)
       ]),
       (λ c. (new.all b).1 ((split b).1 (elim (contains_cases old.attempts a b c)
           [ inl o ↦ inl ((old.all b).0 o) | inr e ↦ inr e ]))),
@@ -143,8 +150,8 @@ gone_counted k d at seen start (Some (a, code)) before after is accepts first if
     let x = tick at seen in
     let gone : IsGoneNow k x a = ((iff a code).0 refl).1 in
     let l = leaving k d x a is gone in
-    counted_one k (k ++ x ∷ []) (HasExit k) (OrGone k x) (record { attempt = a; run = at - unwrap_or start at }) at before
-    after (exits, are, count)
+    counted_one k (k ++ x ∷ []) (HasExit k) (OrGone k x) (record { attempt = a; run = at - unwrap_or start at }) at
+    before after (exits, are, count)
     (gone_more k d at seen exits start true is accepts first ((λ t. (a, gone)), (λ w. refl))
     (record { attempts = are.attempts; in_order = are.in_order; all = are.all; each = are.each }))
     (above_ended k a l.newest (λ p. l.lives p.0 p.1.holds))
@@ -169,8 +176,11 @@ died_counted k d x None run before after is iff runs (exits, are, count) counts 
           [ inl p ↦ p | inr w ↦ absurd (let e : None ≡ Some (b, w.0) = (iff b w.0).1 w.1 in cc) ]),
       (λ p. exit_back k x b p),
     )) counts in
-    (found.0, record { attempts = found.1.attempts; in_order = found.1.in_order; all = found.1.all; each = found.1.each },
-    found.2)
+    (
+      found.0,
+      record { attempts = found.1.attempts; in_order = found.1.in_order; all = found.1.all; each = found.1.each },
+      found.2,
+    )
 died_counted k d x (Some (a, code)) None before after is iff none (exits, are, count) counts =
     let died : DiesWith k x a code = (iff a code).0 refl in
     absurd (none a (length k) (dies_newest k d x a code is died) died.0)
@@ -208,8 +218,11 @@ died_counted k d x (Some (a, code)) (Some run) before after is iff runs (exits, 
         | inr e ↦ (let R : ℕ → Type 0 = λ y. HasExit l y in subst R e (length k, died.0))
       ]),
     )) counts in
-    (found.0, record { attempts = found.1.attempts; in_order = found.1.in_order; all = found.1.all; each = found.1.each },
-    found.2)
+    (
+      found.0,
+      record { attempts = found.1.attempts; in_order = found.1.in_order; all = found.1.all; each = found.1.each },
+      found.2,
+    )
 
 -- exits at a tick: of an instance that it doesn't list, and of one that it lists with this code
 abbrev GoneAt : List Tick → ℕ → ℕ → Type 0
@@ -234,7 +247,8 @@ counted_more h x d e start run gone died left_by died_by before between after is
     let k = listings h in
     let y = listing x in
     let first_counted = gone_counted k d x.moment x.entry.seen start left_by before between is accepts first gone_iff
-    (exits, record { attempts = are.attempts; in_order = are.in_order; all = are.all; each = are.each }, count) counts in
+    (exits, record { attempts = are.attempts; in_order = are.in_order; all = are.all; each = are.each }, count) counts
+    in
     onto (λ k. (exits : List Exit) × (are : AreExits k exits) × IsCountOf are.attempts exits after) h x
     (died_counted k e y died_by run between after (from (λ k. IsDifferOf k e) h x is_after) died_iff
     (from (λ k. IsNewestRun k run) h x runs) first_counted counts_on)
@@ -287,7 +301,8 @@ some_counted h (Some count) a t (exits, are, is) exit = record { exits = exits; 
 
 -- the newest instance's exit
 pub last_found : (h : List ContainerTick) (newest : Option Seen) (at : Option ℕ) (a : ℕ) (code : ℤ)
-    → IsNewestSeen (listings h) newest → IsOfNewest (listings h) (λ a. IsFirstMoment (listings h) (Ends (listings h) a)) at
+    → IsNewestSeen (listings h) newest
+    → IsOfNewest (listings h) (λ a. IsFirstMoment (listings h) (Ends (listings h) a)) at
     → IsNewest (listings h) a → IsExitCode (listings h) a code
     → IsSomeAnd (last_exit_of newest at) (λ cause. (cause.attempt ≡ a) × IsLastExit h cause)
 last_found h None at a code none moment is exited = absurd (none a is.listed.0 is.listed.1)

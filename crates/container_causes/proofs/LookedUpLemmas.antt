@@ -125,8 +125,9 @@ startup_found spec h x d a result kept is results (b, e, comes) give =
 -- the moment in which startup of the instance with this start passed
 pub pass_found : (spec : ContainerSpec) (h : List ContainerTick) (a start : ℕ) (moment : Option ℕ)
     (kept : Option InstanceResults) → IsSomeAnd kept (IsKept spec h a start) → StartsAt h a start
-    → IfSome kept (λ i. (probes : Probes) (begin : ℕ) (ticks : List ProbeTick) → AreMomentsOf probes begin ticks i.moments
-    → PassesAt probes.startup begin ticks moment) → IsPassMoment spec a h moment
+    → IfSome kept (λ i. (probes : Probes) (begin : ℕ) (ticks : List ProbeTick)
+    → AreMomentsOf probes begin ticks i.moments → PassesAt probes.startup begin ticks moment)
+    → IsPassMoment spec a h moment
 pass_found spec h a start moment None kept starts give = absurd kept
 pass_found spec h a start moment (Some i) kept starts give = record {
   start = start;

@@ -1,13 +1,15 @@
 //! A container with what the causes of its events need of the past.
 
-ghost use Rattle.std.specs.Prelude.{◌≡◌, ◌≢◌, ◌<◌, ℕ, ℤ, List, [], ◌∷◌, ◌++◌, length, Some, option_map, IsSome, IsSomeAnd, IfOk};
+ghost use Rattle.std.specs.Prelude.{◌≡◌, ◌≢◌, ◌<◌, ℕ, ℤ, List, [], ◌∷◌, ◌++◌, length, Some, option_map, IsSome};
+ghost use Rattle.std.specs.Prelude.{IsSomeAnd, IfOk};
 ghost use Rattle.quantity.specs.rule.Duration.{end_of_time};
 ghost use Rattle.histories.specs.rule.Histories.{recorded, IsFirstMoment};
 ghost use Rattle.manifest.specs.declared.pod.ContainerSpec.{ContainerSpec as AContainerSpec};
 ghost use Rattle.manifest.specs.declared.pod.Role.TheVariants.{Init};
 ghost use Rattle.state_diff.specs.declared.seen.CriState.TheVariants.{Running};
 ghost use Rattle.state_diff.specs.rule.Instances.{ListedAs, IsNewest, IsExit, IsExitCode, killed_code};
-ghost use Rattle.containers.specs.declared.pod_event_kind.PodEventKind.TheVariants.{Kill, StartupPassed, Ready, Unready};
+ghost use Rattle.containers.specs.declared.pod_event_kind.PodEventKind.TheVariants.{Kill, StartupPassed, Ready};
+ghost use Rattle.containers.specs.declared.pod_event_kind.PodEventKind.TheVariants.{Unready};
 ghost use Rattle.containers.specs.declared.pod_event_kind.PodEventKind.TheVariants.{Died, Started};
 ghost use Rattle.containers.specs.rule.Ticks.{ContainerTick, listings, StartsAt};
 ghost use Rattle.containers.specs.rule.Events.{AreEvents, IsKilled, Passes, ChangesReadiness};
@@ -248,8 +250,8 @@ impl WatchedContainer {
 
     /// Why this instance died, where the tick that was taken last has that event and lists it.
     pub fn exited(&self, attempt: u32) -> Exited
-        ensures { (spec : AContainerSpec) (max_restart_delay : ℕ) (h : List ContainerTick) (x : ContainerTick) (code : ℤ)
-            → IsWatchedOf spec max_restart_delay (h ++ x ∷ []) self.now
+        ensures { (spec : AContainerSpec) (max_restart_delay : ℕ) (h : List ContainerTick) (x : ContainerTick)
+            (code : ℤ) → IsWatchedOf spec max_restart_delay (h ++ x ∷ []) self.now
             → HasDied (h ++ x ∷ []) (length h) (Died attempt code) → IsExited h x code result }
     {
         let differ = self.container.differ();

@@ -61,10 +61,11 @@ successes_hold s f xs run = (
 pub failures_undo : (s f : ℕ) (b : Option Outcome) (xs : List Outcome) → HoldsAfter s f xs
     → (HoldsAfter s f (xs ++ cons_option b []) → ⊥) → EndsNow Failure f (xs ++ cons_option b [])
 failures_undo s f None xs holds not = absurd (not (subst (HoldsAfter s f) (sym (append-nil xs)) holds))
-failures_undo s f (Some x) xs holds not = elim (run_or_not Failure failure_or_not f (xs ++ x ∷ []) (length (xs ++ x ∷ []))) [
-  | inl now ↦ now
-  | inr none ↦ absurd (not ((HoldsAfter-more s f xs x).1 (inr (holds, none))))
-]
+failures_undo s f (Some x) xs holds not =
+    elim (run_or_not Failure failure_or_not f (xs ++ x ∷ []) (length (xs ++ x ∷ []))) [
+      | inl now ↦ now
+      | inr none ↦ absurd (not ((HoldsAfter-more s f xs x).1 (inr (holds, none))))
+    ]
 
 -- where failures end with the last result, readiness does not hold
 pub undone : (s f : ℕ) (xs : List Outcome) → 1 ≤ s → 1 ≤ f → HoldsAfter s f xs → EndsNow Failure f xs → ⊥

@@ -1,5 +1,5 @@
-//! What is true of every list of exits, and of all policies and rules. The functions do nothing; their contracts are the
-//! laws.
+//! What is true of every list of exits, and of all policies and rules. The functions do nothing; their contracts are
+//! the laws.
 ghost use Rattle.restart_causes.specs.state.Laws as laws;
 
 /// Exits have exactly one count, and the delay after the last of them follows from it.

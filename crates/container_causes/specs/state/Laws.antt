@@ -13,7 +13,8 @@ use Rattle.containers.specs.rule.Events.{IsKilled, Passes}
 use Rattle.containers.specs.rule.Exits.{IsDelayed}
 use Rattle.container_causes.specs.declared.exits.LastExit.{LastExit}
 use Rattle.container_causes.specs.rule.Exits.{IsLastExit, IsCounted}
-use Rattle.container_causes.specs.rule.Results.{AreKillFailures, AreReadySuccesses, AreUnreadyFailures, IsStartupSuccess}
+use Rattle.container_causes.specs.rule.Results.{AreKillFailures, AreReadySuccesses, AreUnreadyFailures}
+use Rattle.container_causes.specs.rule.Results.{IsStartupSuccess}
 
 -- an instance that is to be killed has failures for it
 abbrev pub SomeKillFailures : Type 0
@@ -63,4 +64,5 @@ DelayFollows = (max_restart_delay : ℕ) (h : List ContainerTick) (count : ExitC
 
 -- the last exit is one
 abbrev pub OneLastExit : Type 0
-OneLastExit = (h : List ContainerTick) (cause other : LastExit) → IsLastExit h cause → IsLastExit h other → cause ≡ other
+OneLastExit = (h : List ContainerTick) (cause other : LastExit) → IsLastExit h cause → IsLastExit h other
+    → cause ≡ other

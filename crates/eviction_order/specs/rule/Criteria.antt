@@ -1,5 +1,5 @@
--- By which criterion of the order one pod is evicted before another (Kubernetes, "Node-pressure Eviction", "Pod selection
--- for kubelet eviction"): the first that prefers one of the two.
+-- By which criterion of the order one pod is evicted before another (Kubernetes, "Node-pressure Eviction", "Pod
+-- selection for kubelet eviction"): the first that prefers one of the two.
 use Rattle.std.specs.Prelude.{Bool}
 use Rattle.signals.specs.declared.signal.Signal.{Signal}
 use Rattle.pod_piece.specs.declared.status.PodStatus.{PodStatus}
@@ -20,7 +20,8 @@ Next criterion next p q = (criterion p q → ⊥) × (criterion q p → ⊥) × 
 abbrev pub IsBeforeBy : Signal → Bool → Criterion → Prefers
 IsBeforeBy signal dedicated NoSample = UnsampledFirst signal
 IsBeforeBy signal dedicated AboveRequest = Next (UnsampledFirst signal) (ExceedsAlone signal dedicated)
-IsBeforeBy signal dedicated Priority = Next (UnsampledFirst signal) (Next (ExceedsAlone signal dedicated) HasLowerPriority)
+IsBeforeBy signal dedicated Priority =
+    Next (UnsampledFirst signal) (Next (ExceedsAlone signal dedicated) HasLowerPriority)
 IsBeforeBy signal dedicated NoSampleOfPriority =
     Next (UnsampledFirst signal) (Next (ExceedsAlone signal dedicated) (Next HasLowerPriority UnsampledAlone))
 IsBeforeBy signal dedicated Usage =

@@ -1,6 +1,6 @@
--- Which case of the rules gives a pod its phase, and the container that makes it hold (Kubernetes, "Pod Lifecycle", "Pod
--- phase" and "Container restart policy"; the order of the cases is this profile's). W container code: the container is
--- restarted after an exit with this code.
+-- Which case of the rules gives a pod its phase, and the container that makes it hold (Kubernetes, "Pod Lifecycle",
+-- "Pod phase" and "Container restart policy"; the order of the cases is this profile's). W container code: the
+-- container is restarted after an exit with this code.
 use Rattle.std.specs.Prelude.{◌≡◌, ℕ, ℤ, List, Any, Some, slice_get}
 use Rattle.histories.specs.rule.Histories.{IsFirst}
 use Rattle.manifest.specs.declared.pod.Role.TheVariants.{App}

@@ -8,8 +8,9 @@ use Rattle.phase_causes.specs.rule.Cases.{IsPhaseCase, phase_of}
 
 -- there is one case at most
 abbrev pub OnePhaseCase : Type 0
-OnePhaseCase = (containers : List RestartView) (one other : PhaseCase) → IsPhaseCase of_restart_view Wants containers one
-    → IsPhaseCase of_restart_view Wants containers other → one ≡ other
+OnePhaseCase = (containers : List RestartView) (one other : PhaseCase)
+    → IsPhaseCase of_restart_view Wants containers one → IsPhaseCase of_restart_view Wants containers other
+    → one ≡ other
 
 -- its phase is the one of the rules
 abbrev pub PhaseFollows : Type 0

@@ -1,7 +1,8 @@
 -- Which exits count towards the delay of the restart after the last one, and what the delay is made of. (Kubernetes,
 -- "Pod Lifecycle", "Container restart policy"; that every exit counts and a run of 600 s begins the count anew are this
 -- profile's rules.)
-use Rattle.std.specs.Prelude.{◌≡◌, ◌↔◌, ℕ, zero, suc, ◌+◌, ◌*◌, ◌^◌, List, length, slice_get, Option, Some, None, IsTrue}
+use Rattle.std.specs.Prelude.{◌≡◌, ◌↔◌, ℕ, zero, suc, ◌+◌, ◌*◌, ◌^◌, List, length, slice_get, Option, Some, None}
+use Rattle.std.specs.Prelude.{IsTrue}
 use Rattle.std.specs.Prelude.{if◌then◌else◌, nat_lt, unwrap_or}
 use Rattle.histories.specs.rule.Histories.{moment_at}
 use Rattle.restarts.specs.rule.Exits.{Exit, IsBeginning}

@@ -26,7 +26,8 @@ OneExitCount = (attempts : List ℕ) (exits : List Exit) (count other : ExitCoun
 -- the delay after the last exit follows from it
 abbrev pub DelayFollows : Type 0
 DelayFollows = (max_restart_delay : ℕ) (attempts : List ℕ) (exits : List Exit) (count : ExitCount)
-    → IsExitCount attempts exits count → IsDelay max_restart_delay exits (delay_by max_restart_delay (doublings_of count.number))
+    → IsExitCount attempts exits count
+    → IsDelay max_restart_delay exits (delay_by max_restart_delay (doublings_of count.number))
 
 -- a rule of the container matches the code
 abbrev pub MatchesAt : ℤ → List RestartRule → ℕ → Type 0

@@ -9,7 +9,8 @@ returns c = λ h x before after same is accepts now first runs one other kept.
     c.args.count c.count_exit-before.result c.count_exit.result is accepts now first runs one other c.death_of.ensures
     c.death_of-2.ensures kept
     (subst (λ m. Counts (left c.death_of.result c.args.start m) m c.args.count c.count_exit-before.result) same
-    (subst (λ l. Counts l c.args.at c.args.count c.count_exit-before.result) c.left.ensures c.count_exit-before.ensures))
+    (subst (λ l. Counts l c.args.at c.args.count c.count_exit-before.result) c.left.ensures
+    c.count_exit-before.ensures))
     (subst (λ m. Counts (exited c.death_of-2.result c.args.run) m c.count_exit-before.result c.count_exit.result) same
     (subst (λ l. Counts l c.args.at c.count_exit-before.result c.count_exit.result) c.exited.ensures
     c.count_exit.ensures))

@@ -27,10 +27,10 @@ returns-clause-state c = λ spec max_restart_delay h own is.
       follows = is.follows;
       results = kept_more spec h x c.args.self.now.container.differ c.differ-differ.result _ _ _ _ _
           c.takes_results-takes.result is.container.differ c.requires.accepted differ events.started events.passed
-          (subst (λ p. IsBegun p c.step-events.result.started c.args.at c.args.self.now.instance c.begin.new.kept) is.follows
-          c.begin.ensures) c.in_ok-take_results.ensures takes is.results;
-      count = c.count_exits-self.ensures h x c.args.self.now.container.differ c.differ-differ.result refl is.container.differ
-          c.requires.accepted differ (c.first_running-start.ensures (listings h)
+          (subst (λ p. IsBegun p c.step-events.result.started c.args.at c.args.self.now.instance c.begin.new.kept)
+          is.follows c.begin.ensures) c.in_ok-take_results.ensures takes is.results;
+      count = c.count_exits-self.ensures h x c.args.self.now.container.differ c.differ-differ.result refl
+          is.container.differ c.requires.accepted differ (c.first_running-start.ensures (listings h)
           (c.differ.ensures spec max_restart_delay h is.container)) (c.run.ensures (listings (h ++ x ∷ [])) differ)
           events.gone events.died is.count;
       runs_on = runs_on_more h x c.args.self.now.container.differ is.container.differ c.requires.accepted is.runs_on;
