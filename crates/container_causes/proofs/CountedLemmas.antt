@@ -100,8 +100,7 @@ counted_one : (k l : List Tick) (P Q : ℕ → Type 0) (leaving : Leaving) (at :
 counted_one k l P Q leaving at before after (exits, are, count) new below split counts =
     let few : length are.attempts + 0 ≤ leaving.attempt = rising_within are.attempts 0 leaving.attempt (omega arith)
     are.in_order (λ b c. omega arith) (λ b c. below b ((are.all b).0 c)) in
-    let R : List ℕ → Type 0 = λ list. IsCountOf list (exits ++ exits_of at (Some leaving)) after in
-    (
+    let R : List ℕ → Type 0 = λ list. IsCountOf list (exits ++ exits_of at (Some leaving)) after in (
       exits ++ exits_of at (Some leaving),
       new,
       subst R (sym (grown_by k l P Q exits (exits ++ exits_of at (Some leaving)) leaving.attempt are new below split))
@@ -112,8 +111,7 @@ counted_none : (k l : List Tick) (P Q : ℕ → Type 0) (at : ℕ) (before after
     (old : CountFor k P before) → AreExitsFor l Q (old.0 ++ []) → ((b : ℕ) → (Q b ↔ P b))
     → Counts None at before after → CountFor l Q after
 counted_none k l P Q at before after (exits, are, count) new same counts =
-    let R : List ℕ → Type 0 = λ list. IsCountOf list (exits ++ []) after in
-    (
+    let R : List ℕ → Type 0 = λ list. IsCountOf list (exits ++ []) after in (
       exits ++ [],
       new,
       subst R (append-nil are.attempts ∙ sym (grown_none k l P Q exits (exits ++ []) are new same))
@@ -175,8 +173,7 @@ died_counted k d x None run before after is iff runs (exits, are, count) counts 
       (λ q. elim (exit_cases k x b q)
           [ inl p ↦ p | inr w ↦ absurd (let e : None ≡ Some (b, w.0) = (iff b w.0).1 w.1 in cc) ]),
       (λ p. exit_back k x b p),
-    )) counts in
-    (
+    )) counts in (
       found.0,
       record { attempts = found.1.attempts; in_order = found.1.in_order; all = found.1.all; each = found.1.each },
       found.2,
@@ -217,8 +214,7 @@ died_counted k d x (Some (a, code)) (Some run) before after is iff runs (exits, 
         | inl p ↦ exit_back k x b p
         | inr e ↦ (let R : ℕ → Type 0 = λ y. HasExit l y in subst R e (length k, died.0))
       ]),
-    )) counts in
-    (
+    )) counts in (
       found.0,
       record { attempts = found.1.attempts; in_order = found.1.in_order; all = found.1.all; each = found.1.each },
       found.2,
@@ -259,9 +255,11 @@ counted_more h x d e start run gone died left_by died_by before between after is
       (λ e.
           let w = (one (Died a code)).0 ((of_gone a code).0 e) in
           let same : w.0 ≡ a = cc in
-          let killed : code ≡ killed_code = cc in
-          (killed, from_at (λ k t. GoneAt k t a) h x
-              (subst (λ (b : ℕ). GoneAt (listings (h ++ x ∷ [])) (length h) b) same (w.2, w.3)))),
+          let killed : code ≡ killed_code = cc in (
+            killed,
+            from_at (λ k t. GoneAt k t a) h x
+                (subst (λ (b : ℕ). GoneAt (listings (h ++ x ∷ [])) (length h) b) same (w.2, w.3)),
+          )),
       (λ (killed, now).
           let w = onto_at (λ k t. GoneAt k t a) h x now in
           (of_gone a code).1 ((one (Died a code)).1 (a, ap (λ c. Died a c) killed, w.0, w.1))),
@@ -274,15 +272,23 @@ counted_more h x d e start run gone died left_by died_by before between after is
           let same : b ≡ a = cc in
           let of : c ≡ code = cc in
           from_at (λ k t. DiedAt k t a code) h x
-              (subst (λ (n : ℤ). DiedAt (listings (h ++ x ∷ [])) (length h) a n) of
-              (subst (λ (n : ℕ). DiedAt (listings (h ++ x ∷ [])) (length h) n c) same (exit, elim at [
-                | inl q ↦ q
-                | inr u ↦ absurd (u.0 listed)
-              ])))),
+          (subst (λ (n : ℤ). DiedAt (listings (h ++ x ∷ [])) (length h) a n) of
+          (subst (λ (n : ℕ). DiedAt (listings (h ++ x ∷ [])) (length h) n c) same (
+            exit,
+            elim at [
+              | inl q ↦ q
+              | inr u ↦ absurd (u.0 listed)
+            ],
+          )))),
       (λ now.
           let w = onto_at (λ k t. DiedAt k t a code) h x now in
           (of_died a code).1 ((other (Died a code)).1 (
-            a, code, refl, w.0, of_coded a code (seen_at (listings (h ++ x ∷ [])) (length h)) w.1, inl w.1,
+            a,
+            code,
+            refl,
+            w.0,
+            of_coded a code (seen_at (listings (h ++ x ∷ [])) (length h)) w.1,
+            inl w.1,
           ))),
     )
 

@@ -51,11 +51,15 @@ probe_lacked Q spec h a exited_at given done b runs role newest exits shown iff 
             w.1,
             (λ s. w.2 (shown.1 (
               (λ f. let g : false ≡ true = f in cc),
-              (a, record {
-                role = role;
-                newest = newest;
-                runs = runs a s.start newest s.starts (λ t x. lives (t, x));
-              }, s),
+              (
+                a,
+                record {
+                  role = role;
+                  newest = newest;
+                  runs = runs a s.start newest s.starts (λ t x. lives (t, x));
+                },
+                s,
+              ),
             ))),
           )),
       (λ w. iff.1 (

@@ -71,11 +71,7 @@ fn exited(death: Option<(u32, i32)>, run: Option<u64>) -> Option<Leaving>
 }
 
 /// The count after an exit of this tick, at this moment, if there is one.
-fn count_exit(
-    before: Option<ExitCount>,
-    leaving: Option<Leaving>,
-    at: u64,
-) -> Option<ExitCount>
+fn count_exit(before: Option<ExitCount>, leaving: Option<Leaving>, at: u64) -> Option<ExitCount>
     ensures { (attempts : List ℕ) (exits : List Exit) → length attempts ≡ length exits
         → IfSome leaving (λ l. length attempts ≤ l.attempt) → IsCountOf attempts exits before
         → IsCountOf (attempts ++ attempts_of leaving) (exits ++ exits_of at leaving) result }

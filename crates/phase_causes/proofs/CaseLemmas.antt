@@ -100,10 +100,19 @@ phase_follows cs case.Completed c = inr (c.0.none_failed, inr (c.0.none_awaited,
 phase_follows cs case.Stopped c =
     inr (c.0.none_failed, inr (c.0.none_awaited, inr ((λ w. clash cs w.1 c.2), inl ((c.1, c.2), refl))))
 phase_follows cs (case.Unfinished i) c =
-    inr (c.0.none_failed, inr (c.0.none_awaited, inr ((λ w. stays cs i w.0 c.1.holds), inr (
-      (λ w. stays cs i w.0 c.1.holds),
-      refl,
-    ))))
+    inr (
+      c.0.none_failed,
+      inr (
+        c.0.none_awaited,
+        inr (
+          (λ w. stays cs i w.0 c.1.holds),
+          inr (
+            (λ w. stays cs i w.0 c.1.holds),
+            refl,
+          ),
+        ),
+      ),
+    )
 
 -- where no app container goes on, all have stopped
 pub have_stopped : (cs : List RestartView) → ((k : ℕ) → IsAt (IsNotStopped of_restart_view Wants) cs k → ⊥)

@@ -112,8 +112,7 @@ some_count attempts exits same some =
     let start = n.1.start in
     let within : start < length exits = below start n.1.beginning in
     let moment = moment_some exits start within in
-    let first = is_zero start in
-    (
+    let first = is_zero start in (
       record {
         number = n.0;
         first = get_or attempts start 0;

@@ -21,9 +21,11 @@ same_delay greatest (suc (suc n)) = capped greatest (10 * 2 ^ n) (nat_lt greates
 
 pub delay_follows : (greatest : ℕ) (attempts : List ℕ) (exits : List Exit) (count : ExitCount)
     → IsExitCount attempts exits count → IsDelay greatest exits (delay_by greatest (doublings_of count.number))
-delay_follows greatest attempts exits count is =
-    (count.number, record { start = is.start; beginning = is.beginning; counted = is.counted },
-    sym (same_delay greatest count.number))
+delay_follows greatest attempts exits count is = (
+  count.number,
+  record { start = is.start; beginning = is.beginning; counted = is.counted },
+  sym (same_delay greatest count.number),
+)
 
 -- so often doubled, 10 s are more than any maximum
 pub far_doubled : (greatest n : ℕ) → greatest ≤ 300 → 5 ≤ n → greatest < 10 * 2 ^ n

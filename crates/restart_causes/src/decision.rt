@@ -29,12 +29,7 @@ pub struct Decision {
 
 /// What decides after an exit of a container of this role with this code, in a pod with this policy; `own` has the
 /// container's own policy and rules.
-pub fn decision_after(
-    policy: Policy,
-    own: Option<&OwnRestarts>,
-    role: Role,
-    code: i32,
-) -> Decision
+pub fn decision_after(policy: Policy, own: Option<&OwnRestarts>, role: Role, code: i32) -> Decision
     ensures { result ≡ decision_after policy (option_map (λ o. o.now) own.entry) role code }
 {
     match role {

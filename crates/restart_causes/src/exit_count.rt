@@ -32,12 +32,7 @@ pub struct ExitCount {
 
 /// The count after the exit of this attempt, which came at this moment after a run of this many seconds. Exits come in
 /// the order of their attempts.
-pub fn counted(
-    before: Option<ExitCount>,
-    attempt: u32,
-    at: u64,
-    run_seconds: u64,
-) -> ExitCount
+pub fn counted(before: Option<ExitCount>, attempt: u32, at: u64, run_seconds: u64) -> ExitCount
     ensures { (attempts : List ℕ) (exits : List Exit) → length attempts ≡ length exits → length attempts ≤ attempt
         → IsCountOf attempts exits before
         → IsCountOf (attempts ++ attempt ∷ []) (exits ++ recorded at run_seconds ∷ []) (Some result) }
@@ -89,11 +84,7 @@ fn counted_on(before: ExitCount, attempt: u32, at: u64, run_seconds: u64) -> Exi
 pub fn doublings(number: u64) -> Option<u64>
     ensures { result ≡ doublings_of number }
 {
-    if number < 2 {
-        None
-    } else {
-        Some(number - 2)
-    }
+    if number < 2 { None } else { Some(number - 2) }
 }
 
 /// The maximum delay, in seconds, if it is less than 10 s so often doubled.

@@ -14,8 +14,7 @@ returns-in-Some-first_sought c =
 pub returns-in-Some-first_sought-2 : goal.returns-in-Some-first_sought-2
 returns-in-Some-first_sought-2 c =
     let failed = at_some (HasFailedForGood of_restart_view Wants) c.args.containers.now in
-    let awaited = at_some (IsAwaited of_restart_view) c.args.containers.now in
-    (
+    let awaited = at_some (IsAwaited of_restart_view) c.args.containers.now in (
       record {
         none_failed = λ some. let w = failed some in c.in_default.ensures w.0 w.1;
         none_awaited = λ some. let w = awaited some in c.in_default-first_sought.ensures w.0 w.1;
@@ -26,8 +25,7 @@ returns-in-Some-first_sought-2 c =
 pub returns-then-all_complete : goal.returns-then-all_complete
 returns-then-all_complete c =
     let failed = at_some (HasFailedForGood of_restart_view Wants) c.args.containers.now in
-    let awaited = at_some (IsAwaited of_restart_view) c.args.containers.now in
-    (
+    let awaited = at_some (IsAwaited of_restart_view) c.args.containers.now in (
       record {
         none_failed = λ some. let w = failed some in c.in_default.ensures w.0 w.1;
         none_awaited = λ some. let w = awaited some in c.in_default-first_sought.ensures w.0 w.1;
@@ -40,8 +38,7 @@ pub returns-else-all_complete : goal.returns-else-all_complete
 returns-else-all_complete c =
     let failed = at_some (HasFailedForGood of_restart_view Wants) c.args.containers.now in
     let awaited = at_some (IsAwaited of_restart_view) c.args.containers.now in
-    let stopped = have_stopped c.args.containers.now c.in_default-first_sought-2.ensures in
-    (
+    let stopped = have_stopped c.args.containers.now c.in_default-first_sought-2.ensures in (
       record {
         none_failed = λ some. let w = failed some in c.in_default.ensures w.0 w.1;
         none_awaited = λ some. let w = awaited some in c.in_default-first_sought.ensures w.0 w.1;
